@@ -1,0 +1,194 @@
+#!/usr/bin/env python3
+"""Measures `list` against a loop in C, and prints Markdown tables for docs/BENCHMARKS.md.
+
+Usage: bench/run.py [--quick]
+The program is $IAMF_TOOL, or the proved one that the launcher built. --quick takes smaller streams.
+It ends with 1 where a program fails or the two listings differ, and with 0 else, whatever was measured.
+"""
+
+import os
+import re
+import shutil
+import subprocess
+import sys
+import tempfile
+import time
+
+HERE = os.path.dirname(os.path.abspath(__file__))
+TOP = os.path.dirname(HERE)
+PROGRAM = os.environ.get("IAMF_TOOL", os.path.join(TOP, "crates/iamf_tool/out/iamf_tool"))
+
+MB = 1_000_000
+MIB = 1 << 20
+RUNS = 5
+# Reserved OBUs of type 24: a whole of 1000 bytes, whose size takes two bytes and says 997, and a whole of 2 bytes.
+LONG_OBU = bytes([0xC0, 0xE5, 0x07]) + bytes(997)
+SHORT_OBU = bytes([0xC0, 0x00])
+
+
+class Fails(Exception):
+    """A program failed, or two listings differ."""
+
+
+def make_stream(path, obu, size):
+    block = obu * (MB // len(obu))
+    with open(path, "wb") as stream:
+        for _ in range(size // len(block)):
+            stream.write(block)
+    return path
+
+
+def compile_loop(folder, name, *flags):
+    path = os.path.join(folder, name)
+    source = os.path.join(HERE, "list.c")
+    subprocess.run(["cc", "-O2", *flags, "-o", path, source], check=True)
+    return [path]
+
+
+def run_once(command, stream, out):
+    """Runs a command on a stream: its seconds and its peak memory in bytes."""
+    with open(stream, "rb") as source:
+        begun = time.perf_counter()
+        child = subprocess.Popen(command, stdin=source, stdout=out)
+        _, status, usage = os.wait4(child.pid, 0)
+        seconds = time.perf_counter() - begun
+    child.returncode = os.waitstatus_to_exitcode(status)
+    if child.returncode != 0:
+        raise Fails(f"{command[0]} ended with {child.returncode} on {os.path.basename(stream)}")
+    return seconds, usage.ru_maxrss * 1024
+
+
+def compare(folder, commands, stream):
+    """The two commands have to write the same bytes."""
+    paths = [os.path.join(folder, f"listing{i}") for i in range(len(commands))]
+    for command, path in zip(commands, paths):
+        with open(path, "wb") as out:
+            run_once(command, stream, out)
+    if subprocess.run(["cmp", *paths], check=False).returncode != 0:
+        raise Fails(f"the listings of {os.path.basename(stream)} differ")
+    for path in paths:
+        os.remove(path)
+
+
+def best_of(commands, stream):
+    """For each command the least of its seconds and its peak memory. The commands take turns."""
+    best = [(float("inf"), 0)] * len(commands)
+    with open(os.devnull, "wb") as out:
+        for _ in range(RUNS):
+            for i, command in enumerate(commands):
+                seconds, peak = run_once(command, stream, out)
+                best[i] = (min(best[i][0], seconds), max(best[i][1], peak))
+    return best
+
+
+def count_with_perf(command, stream):
+    with open(stream, "rb") as source:
+        result = subprocess.run(
+            ["perf", "stat", "-x,", "-e", "instructions:u", *command],
+            stdin=source, stdout=subprocess.DEVNULL, stderr=subprocess.PIPE, text=True, check=True)
+    count = re.search(r"^(\d+),.*instructions", result.stderr, re.M)
+    return int(count.group(1)) if count else None
+
+
+def count_with_callgrind(command, stream):
+    with open(stream, "rb") as source:
+        result = subprocess.run(
+            ["valgrind", "--tool=callgrind", "--callgrind-out-file=/dev/null", *command],
+            stdin=source, stdout=subprocess.DEVNULL, stderr=subprocess.PIPE, text=True, check=False)
+    count = re.search(r"Collected : (\d+)", result.stderr)
+    if result.returncode != 0 or not count:
+        raise Fails(f"valgrind counted nothing for {command[0]}")
+    return int(count.group(1))
+
+
+def counter(stream, command):
+    """What counts instructions on this machine, with its name; None where nothing does."""
+    if shutil.which("perf"):
+        try:
+            if count_with_perf(command, stream) is not None:
+                return count_with_perf, "perf"
+        except subprocess.CalledProcessError:
+            pass
+    if shutil.which("valgrind"):
+        return count_with_callgrind, "callgrind"
+    return None
+
+
+def row(*cells):
+    print("| " + " | ".join(cells) + " |")
+
+
+def head(*cells):
+    row(*cells)
+    row(*(["---"] * len(cells)))
+
+
+def met(holds):
+    return "met" if holds else "NOT MET"
+
+
+def report_streams(folder, program, loop, sizes):
+    head("input", "program, s", "C loop, s", "ratio", "at most 1.5", "ns a byte",
+         "peak memory, MiB", "above the input, MiB", "at most 32")
+    rates = []
+    for size in sizes:
+        stream = make_stream(os.path.join(folder, f"{size}.iamf"), LONG_OBU, size * MB)
+        compare(folder, [program, loop], stream)
+        (seconds, peak), (loop_seconds, _) = best_of([program, loop], stream)
+        ratio = seconds / loop_seconds
+        over = (peak - size * MB) / MIB
+        rates.append(seconds / (size * MB) * 1e9)
+        row(f"{size} MB of 1000-byte OBUs", f"{seconds:.4f}", f"{loop_seconds:.4f}", f"{ratio:.2f}",
+            met(ratio <= 1.5), f"{rates[-1]:.3f}", f"{peak / MIB:.1f}", f"{over:.1f}", met(over <= 32))
+        os.remove(stream)
+    print(f"\nTime a byte, the largest input over the smallest: {rates[-1] / rates[0]:.2f} (1 is the same).\n")
+
+
+def report_short(folder, program, printf_loop, loop, size):
+    stream = make_stream(os.path.join(folder, "short.iamf"), SHORT_OBU, size * MB)
+    compare(folder, [program, printf_loop], stream)
+    (seconds, _), (printf_seconds, _), (loop_seconds, _) = best_of([program, printf_loop, loop], stream)
+    ratio = seconds / printf_seconds
+    head("input", "program, s", "printf loop, s", "ratio", "at most 0.6", "C loop, s")
+    row(f"{size} MB of 2-byte OBUs", f"{seconds:.3f}", f"{printf_seconds:.3f}", f"{ratio:.2f}",
+        met(ratio <= 0.6), f"{loop_seconds:.3f}")
+    print()
+    os.remove(stream)
+
+
+def report_instructions(folder, program, loop, sizes):
+    probe = make_stream(os.path.join(folder, "probe.iamf"), LONG_OBU, MB)
+    found = counter(probe, loop)
+    if found is None:
+        print("Instructions were not counted: neither perf nor valgrind counts them here.")
+        return
+    count, name = found
+    head("input", f"program, instructions a byte ({name})", "C loop", "at most 2.5")
+    for size in sizes if name == "perf" else [5, 50]:
+        stream = make_stream(os.path.join(folder, f"{size}.iamf"), LONG_OBU, size * MB)
+        rate, loop_rate = (count(command, stream) / (size * MB) for command in (program, loop))
+        row(f"{size} MB of 1000-byte OBUs", f"{rate:.3f}", f"{loop_rate:.3f}", met(rate <= 2.5))
+        os.remove(stream)
+
+
+def main():
+    quick = sys.argv[1:] == ["--quick"]
+    if sys.argv[1:] and not quick:
+        sys.exit("usage: bench/run.py [--quick]")
+    if not os.access(PROGRAM, os.X_OK):
+        sys.exit(f"bench/run.py: no program at {PROGRAM}: run ./iamf_tool once, or set IAMF_TOOL")
+    sizes = [5, 50] if quick else [50, 500]
+    program = [PROGRAM, "list"]
+    with tempfile.TemporaryDirectory() as folder:
+        loop = compile_loop(folder, "list")
+        printf_loop = compile_loop(folder, "list_printf", "-DWITH_PRINTF")
+        try:
+            report_streams(folder, program, loop, sizes)
+            report_short(folder, program, printf_loop, loop, 2 if quick else 20)
+            report_instructions(folder, program, loop, sizes)
+        except Fails as fault:
+            sys.exit(f"bench/run.py: {fault}")
+
+
+if __name__ == "__main__":
+    main()

@@ -1,0 +1,6 @@
+pub mod LebLoop
+pub mod Place
+pub mod Spelled
+pub mod Numbers
+pub mod Puts
+pub mod TextLoop

@@ -1,0 +1,62 @@
+-- The number that stands among the bits of bytes.
+use Rattle.std.proofs.Common.{◌≡◌, ℕ, ◌+◌, ◌-◌, ◌*◌, ◌/◌, ◌%◌, ◌^◌, ◌<◌, ◌≤◌, true, false, List, [], ◌∷◌, ◌++◌, length, get_or, take, drop, refl, sym, ap, subst, ◌∙◌, arith, inl, inr, append_assoc, length-append}
+use Rattle.std.proofs.lemmas.Bool.{cases_lt}
+use Rattle.std.proofs.lemmas.List.{append-nil, take-append-drop, length-take-le, length-drop, take-append-le, drop-append-le, take_more}
+use Rattle.std.proofs.lemmas.Nat.{pow-add, shr_high, mod_low, pow_below}
+use Rattle.spec_bits.specs.Bits.{Bits, number_of, bits_of, all_bits}
+use Rattle.spec_bits.proofs.BitsLaws.{length-bits_of, number_of-bound, number_of-bits_of, all_bits-append, length-all_bits}
+
+pub number_of-append : (a b : Bits) → number_of (a ++ b) ≡ number_of a * 2 ^ length b + number_of b
+unfolding number_of
+number_of-append [] b = omega arith
+number_of-append (true ∷ a) b = let p = pow-add 2 (length a) (length b) in rw (length-append a b, p) (omega (arith, number_of-append a b))
+number_of-append (false ∷ a) b = omega (arith, number_of-append a b)
+
+-- the bits between are the number without its end and its front
+pub number_of-between : (bits : Bits) (used n : ℕ) → used + n ≤ length bits → number_of (take n (drop used bits)) ≡ number_of bits / 2 ^ (length bits - (used + n)) % 2 ^ n
+number_of-between bits used n le =
+    let front = take used bits in
+    let middle = take n (drop used bits) in
+    let end = drop n (drop used bits) in
+    let whole : bits ≡ front ++ (middle ++ end) = sym (take-append-drop used bits) ∙ ap (λ (b : Bits). front ++ b) (sym (take-append-drop n (drop used bits))) in
+    let middle_len : length middle ≡ n = length-take-le n (drop used bits) (omega (arith, length-drop used bits)) in
+    let end_len : length end ≡ length bits - (used + n) = omega (arith, length-drop n (drop used bits), length-drop used bits) in
+    let regrouped : bits ≡ (front ++ middle) ++ end = whole ∙ sym (append_assoc front middle end) in
+    let value : number_of bits ≡ (number_of front * 2 ^ n + number_of middle) * 2 ^ (length bits - (used + n)) + number_of end =
+    ap number_of regrouped ∙ number_of-append (front ++ middle) end ∙ ap (λ (k : ℕ). number_of (front ++ middle) * 2 ^ k + number_of end) end_len
+    ∙ ap (λ (k : ℕ). k * 2 ^ (length bits - (used + n)) + number_of end) (number_of-append front middle ∙ ap (λ (k : ℕ). number_of front * 2 ^ k + number_of middle) middle_len) in
+    let end_below : number_of end < 2 ^ (length bits - (used + n)) = subst (λ (k : ℕ). number_of end < 2 ^ k) end_len (number_of-bound end) in
+    let middle_below : number_of middle < 2 ^ n = subst (λ (k : ℕ). number_of middle < 2 ^ k) middle_len (number_of-bound middle) in
+    sym (ap (λ (k : ℕ). k / 2 ^ (length bits - (used + n)) % 2 ^ n) value
+    ∙ ap (λ (k : ℕ). k % 2 ^ n) (shr_high (number_of front * 2 ^ n + number_of middle) (length bits - (used + n)) (number_of end) end_below)
+    ∙ mod_low (number_of front) n (number_of middle) middle_below)
+
+-- one byte more
+pub number_more : (xs : List ℕ) (i : ℕ) → i < length xs → get_or xs i 0 < 256 → number_of (all_bits (take (i + 1) xs)) ≡ number_of (all_bits (take i xs)) * 256 + get_or xs i 0
+unfolding all_bits
+number_more xs i lt small =
+    let one : all_bits (get_or xs i 0 ∷ []) ≡ bits_of 8 (get_or xs i 0) = append-nil (bits_of 8 (get_or xs i 0)) in
+    ap (λ (ys : List ℕ). number_of (all_bits ys)) (take_more xs i 0 lt)
+    ∙ ap number_of (all_bits-append (take i xs) (get_or xs i 0 ∷ []) ∙ ap (λ (b : Bits). all_bits (take i xs) ++ b) one)
+    ∙ number_of-append (all_bits (take i xs)) (bits_of 8 (get_or xs i 0))
+    ∙ rw (length-bits_of 8 (get_or xs i 0), number_of-bits_of 8 (get_or xs i 0) small) refl
+
+pub number_below : (xs : List ℕ) (i : ℕ) → i < 8 → i ≤ length xs → number_of (all_bits (take i xs)) < 2 ^ 56
+number_below xs i lt le =
+    let e : length (all_bits (take i xs)) ≡ 8 * i = length-all_bits (take i xs) ∙ ap (λ (k : ℕ). 8 * k) (length-take-le i xs le) in
+    let small : number_of (all_bits (take i xs)) < 2 ^ (8 * i) = subst (λ (k : ℕ). number_of (all_bits (take i xs)) < 2 ^ k) e (number_of-bound (all_bits (take i xs))) in
+    elim (cases_lt (8 * i) 56) [
+      | inl below ↦ omega (arith, small, pow_below (8 * i) 56 below)
+      | inr above ↦ let same : 8 * i ≡ 56 = omega arith in subst (λ (k : ℕ). number_of (all_bits (take i xs)) < 2 ^ k) same small
+    ]
+
+-- n bits after `used` ones, read from the first `count` bytes
+pub number_there : (xs : List ℕ) (used n count : ℕ) → count ≤ length xs → used + n ≤ 8 * count
+    → number_of (take n (drop used (all_bits xs))) ≡ number_of (all_bits (take count xs)) / 2 ^ (8 * count - (used + n)) % 2 ^ n
+number_there xs used n count le enough =
+    let bits = all_bits (take count xs) in
+    let split : all_bits xs ≡ bits ++ all_bits (drop count xs) = ap all_bits (sym (take-append-drop count xs)) ∙ all_bits-append (take count xs) (drop count xs) in
+    let len : length bits ≡ 8 * count = length-all_bits (take count xs) ∙ ap (λ (k : ℕ). 8 * k) (length-take-le count xs le) in
+    let cut : take n (drop used (bits ++ all_bits (drop count xs))) ≡ take n (drop used bits) =
+    ap (take n) (drop-append-le used bits (all_bits (drop count xs)) (omega arith)) ∙ take-append-le n (drop used bits) (all_bits (drop count xs)) (omega (arith, length-drop used bits)) in
+    ap (λ (b : Bits). number_of (take n (drop used b))) split ∙ ap number_of cut ∙ number_of-between bits used n (omega arith) ∙ ap (λ (k : ℕ). number_of bits / 2 ^ (k - (used + n)) % 2 ^ n) len

@@ -1,0 +1,25 @@
+-- How a run has to end where nothing failed.
+use Rattle.std.specs.Prelude.{◌≡◌, ℕ, ◌^◌, ◌<◌, ◌≤◌, ◌⊎◌, IfSome, List, length}
+use Rattle.iamf_io.specs.Causes.{Rose}
+use Rattle.iamf_tool.specs.declared.command.Command.{Command}
+use Rattle.iamf_tool.specs.declared.status.Status.{Status}
+use Rattle.iamf_tool.specs.declared.status.Status.TheVariants.{Done, Refused, Memory, TooLarge}
+use Rattle.iamf_tool.specs.Outcome.{Output, Refusal, Outcome}
+use Rattle.iamf_tool.specs.Ends.{Side}
+
+-- the count did not rise
+abbrev pub IsCalm : Side → Type 0
+IsCalm s = Rose s.count_before s.count_after → ⊥
+
+abbrev pub IsOrMemory : Status → Status → Type 0
+IsOrMemory status wanted = (status ≡ wanted) ⊎ (status ≡ Memory)
+
+-- Where these are all the bytes that the source tells: an output or a refusal is what the command gives for them,
+-- where they are at most 2^30 and nothing failed; and they are too large where they are more and the source did not fail.
+pub record CompletesOn (status : Status) (c : Command) (source out : Side) (b : List ℕ) : Type 0 where
+  pub done : length b ≤ 2 ^ 30 → IsCalm source → IsCalm out → (output : List ℕ) → Outcome c b (Output output) → IsOrMemory status Done
+  pub refused : length b ≤ 2 ^ 30 → IsCalm source → IsCalm out → (place code : ℕ) → Outcome c b (Refusal place code) → IsOrMemory status Refused
+  pub too_large : 2 ^ 30 < length b → IsCalm source → IsOrMemory status TooLarge
+
+abbrev pub Completes : Status → Command → Side → Side → Type 0
+Completes status c source out = IfSome source.before (λ b. CompletesOn status c source out b)

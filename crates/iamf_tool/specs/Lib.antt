@@ -1,0 +1,6 @@
+pub mod Status
+pub mod Words
+pub mod Outcome
+pub mod Answers
+pub mod Ends
+pub mod Complete

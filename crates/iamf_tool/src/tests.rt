@@ -1,0 +1,208 @@
+ghost use Rattle.std.specs.Prelude.{None};
+
+use crate::run::run;
+use crate::status::Status;
+use iamf_io::{Failed, MemorySink, MemorySource, Source};
+use std::alloc::{AllocError, Global};
+use std::test::Fail;
+
+// One stereo unit of 16-bit LPCM: a sequence header, a codec config, an audio element, a mix presentation, a
+// temporal delimiter and an audio frame of 32 sample bytes.
+const ONE_UNIT: [u8; 102] = [
+    0xf8, 0x06, 0x69, 0x61, 0x6d, 0x66, 0x00, 0x00, 0x00, 0x0e, 0x00, 0x69, 0x70, 0x63, 0x6d, 0x08,
+    0x00, 0x00, 0x01, 0x10, 0x00, 0x00, 0xbb, 0x80, 0x08, 0x0a, 0x01, 0x00, 0x00, 0x01, 0x00, 0x00,
+    0x20, 0x10, 0x01, 0x01, 0x10, 0x1c, 0x02, 0x00, 0x01, 0x01, 0x01, 0x00, 0x00, 0x64, 0x80, 0xf7,
+    0x02, 0x80, 0x00, 0x00, 0x65, 0x80, 0xf7, 0x02, 0x80, 0x00, 0x00, 0x01, 0x80, 0x00, 0x00, 0x00,
+    0x00, 0x00, 0x20, 0x00, 0x30, 0x20, 0x00, 0x01, 0x02, 0x03, 0x04, 0x05, 0x06, 0x07, 0x08, 0x09,
+    0x0a, 0x0b, 0x0c, 0x0d, 0x0e, 0x0f, 0x10, 0x11, 0x12, 0x13, 0x14, 0x15, 0x16, 0x17, 0x18, 0x19,
+    0x1a, 0x1b, 0x1c, 0x1d, 0x1e, 0x1f,
+];
+
+const ITS_LINES: &[u8] =
+    b"0 31 8 ---\n8 0 16 ---\n24 1 12 ---\n36 2 30 ---\n66 4 2 ---\n68 6 34 ---\n";
+
+// What a run takes, and how it ends.
+#[derive(Drop)]
+struct Case<'a> {
+    word: &'a str,
+    input: &'a [u8],
+    // How many bytes a read gives at most.
+    piece: usize,
+    read_fails: &'a [u64],
+    // How many bytes a write takes at most.
+    most: usize,
+    write_fails: &'a [u64],
+    note_fails: &'a [u64],
+    status: Status,
+    out: &'a [u8],
+    notes: &'a [u8],
+}
+
+impl<'a> Case<'a> {
+    // A run on `list` where nothing fails.
+    fn list(input: &'a [u8], status: Status, out: &'a [u8], notes: &'a [u8]) -> Case<'a> {
+        Case {
+            word: "list",
+            input,
+            piece: 4096,
+            read_fails: &[],
+            most: 4096,
+            write_fails: &[],
+            note_fails: &[],
+            status,
+            out,
+            notes,
+        }
+    }
+
+    // Whether the run ends so.
+    fn holds(&self, alloc: Global) -> Result<bool, AllocError> {
+        let mut words = Vec::new(alloc);
+        words.push(String::from_str(alloc, self.word)?)?;
+        if self.piece == 0 || self.most == 0 {
+            return Ok(false);
+        }
+        let mut source = MemorySource::new(alloc, self.input, &[self.piece], self.read_fails)?;
+        let mut out = MemorySink::new(alloc, 4096, self.most, self.write_fails)?;
+        let mut notes = MemorySink::new(alloc, 4096, 4096, self.note_fails)?;
+        let status = run(alloc, &words, &mut source, &mut out, &mut notes);
+        Ok(status == self.status && out.bytes() == self.out && notes.bytes() == self.notes)
+    }
+}
+
+#[test]
+fn one_unit_of_lpcm_lists_in_whole_and_in_pieces_of_one(rt: HostRuntime) -> Result<(), Fail> {
+    let whole = Case::list(&ONE_UNIT, Status::Done, ITS_LINES, b"");
+    assert!(rt; whole.holds(rt.alloc())?);
+    let pieces = Case {
+        piece: 1,
+        ..Case::list(&ONE_UNIT, Status::Done, ITS_LINES, b"")
+    };
+    assert!(rt; pieces.holds(rt.alloc())?);
+    let empty = Case::list(b"", Status::Done, b"", b"");
+    assert!(rt; empty.holds(rt.alloc())?);
+    Ok(())
+}
+
+#[test]
+fn flags_have_their_letters(rt: HostRuntime) -> Result<(), Fail> {
+    // A redundant temporal delimiter is not allowed, a redundant reserved OBU is; a frame may be trimmed; any
+    // OBU may have an extension.
+    let flags = b"\xc4\x00\x32\x02\x03\x05\xc1\x02\x01\x00";
+    let lines = b"0 24 2 r--\n2 6 4 -t-\n6 24 4 --x\n";
+    assert!(rt; Case::list(flags, Status::Done, lines, b"").holds(rt.alloc())?);
+    let redundant = Case::list(b"\x24\x00", Status::Refused, b"", b"refused 0 3\n");
+    assert!(rt; redundant.holds(rt.alloc())?);
+    Ok(())
+}
+
+#[test]
+fn faulty_headers_are_refused_by_place_and_number(rt: HostRuntime) -> Result<(), Fail> {
+    let cases: [(&[u8], &[u8]); 6] = [
+        (
+            b"\xf8\x86\x80\x80\x80\x80\x80\x80\x80\x00\x00",
+            b"refused 0 1\n",
+        ),
+        (b"\xf8\x80\x80\x80\x80\x10", b"refused 0 1\n"),
+        (b"\xf8\xff\xff\xff\xff\x0f", b"refused 0 2\n"),
+        (b"\xc0\x00\xfa\x06", b"refused 2 3\n"),
+        (b"\x32\x02\x03", b"refused 0 5\n"),
+        (b"\x32\x01\x03", b"refused 0 4\n"),
+    ];
+    for (input, notes) in cases {
+        assert!(rt; Case::list(input, Status::Refused, b"", notes).holds(rt.alloc())?);
+    }
+    Ok(())
+}
+
+#[test]
+fn words_that_are_no_command_read_nothing(rt: HostRuntime) -> Result<(), Fail> {
+    let usage = Case {
+        word: "lists",
+        // Even the first read would fail.
+        read_fails: &[0],
+        ..Case::list(
+            &ONE_UNIT,
+            Status::Usage,
+            b"",
+            b"usage: iamf_tool COMMAND < INPUT > OUTPUT\n",
+        )
+    };
+    assert!(rt; usage.holds(rt.alloc())?);
+    Ok(())
+}
+
+#[test]
+fn failures_of_the_outside_have_their_status(rt: HostRuntime) -> Result<(), Fail> {
+    let third_read = Case {
+        piece: 40,
+        read_fails: &[2],
+        ..Case::list(&ONE_UNIT, Status::ReadFault, b"", b"read failed\n")
+    };
+    assert!(rt; third_read.holds(rt.alloc())?);
+    let second_write = Case {
+        most: 10,
+        write_fails: &[1],
+        ..Case::list(
+            &ONE_UNIT,
+            Status::WriteFault,
+            b"0 31 8 ---",
+            b"write failed\n",
+        )
+    };
+    assert!(rt; second_write.holds(rt.alloc())?);
+    let flush = Case {
+        write_fails: &[1],
+        ..Case::list(&ONE_UNIT, Status::WriteFault, ITS_LINES, b"write failed\n")
+    };
+    assert!(rt; flush.holds(rt.alloc())?);
+    let note = Case {
+        note_fails: &[0],
+        ..Case::list(b"\xf8", Status::Refused, b"", b"")
+    };
+    assert!(rt; note.holds(rt.alloc())?);
+    Ok(())
+}
+
+// A source that never ends.
+#[derive(Drop)]
+struct Endless;
+
+impl Source for Endless {
+    ghost left = { λ _. None };
+
+    ghost faults = { λ _. 0 };
+
+    fn read(&mut self, into: &mut [u8]) -> Result<usize, Failed> {
+        Ok(into.len())
+    }
+}
+
+#[test]
+fn an_input_that_never_ends_is_too_large(rt: HostRuntime) -> Result<(), Fail> {
+    let mut words = Vec::new(rt.alloc());
+    words.push(String::from_str(rt.alloc(), "list")?)?;
+    let mut out = MemorySink::new(rt.alloc(), 64, 64, &[])?;
+    let mut notes = MemorySink::new(rt.alloc(), 64, 64, &[])?;
+    let status = run(rt.alloc(), &words, &mut Endless, &mut out, &mut notes);
+    assert_eq!(rt; status, Status::TooLarge);
+    assert_eq!(rt; out.bytes(), b"".as_slice());
+    assert_eq!(rt; notes.bytes(), b"input too large\n".as_slice());
+    Ok(())
+}
+
+#[test]
+fn each_status_has_its_number(rt: HostRuntime) {
+    let statuses = [
+        Status::Done,
+        Status::Refused,
+        Status::Usage,
+        Status::Memory,
+        Status::ReadFault,
+        Status::WriteFault,
+        Status::TooLarge,
+    ];
+    for (number, status) in statuses.iter().enumerate() {
+        assert_eq!(rt; usize::from(status.number()), number);
+    }
+}

@@ -1,0 +1,9 @@
+pub mod Outcomes
+pub mod BitsLaws
+pub mod LebLaws
+pub mod TextLaws
+pub mod BlocksLaws
+pub mod ByteForms
+pub mod CanonLaws
+pub mod FormLaws
+pub mod PlainLaws

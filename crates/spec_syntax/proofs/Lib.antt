@@ -1,0 +1,10 @@
+pub mod Reading
+pub mod Tested
+pub mod Places
+pub mod SyntaxLaws
+pub mod Plain
+pub mod Fields
+pub mod Writing
+pub mod Puts
+pub mod Example
+pub mod ExampleBytes

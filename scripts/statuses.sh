@@ -1,0 +1,55 @@
+#!/bin/sh
+# Shows each status of the built program once, with what then stands on standard output and standard error.
+#
+# The program is $IAMF_TOOL, or the one that the launcher builds. Status 7 needs a system that does not give a
+# program its words, and is not shown. The last line is `N passed, M failed`.
+
+top=$(cd "$(dirname "$0")/.." && pwd) || exit 2
+tool=${IAMF_TOOL:-$top/crates/iamf_tool/out/iamf_tool}
+[ -x "$tool" ] || "$top/iamf_tool" list </dev/null || exit 2
+work=$(mktemp -d) || exit 2
+trap 'rm -rf "$work"' EXIT
+trap 'exit 130' INT TERM
+
+passed=0
+failed=0
+
+# Judges the run that ended with $? = $2 and left out and notes in the folder:
+# its status has to be $3, its notes $4, and its output the file $5.
+judge() {
+    if [ "$2" -eq "$3" ] && [ "$(cat "$work/notes")" = "$4" ] && cmp -s "$work/out" "$5"; then
+        passed=$((passed + 1))
+        echo "passed: $1"
+    else
+        failed=$((failed + 1))
+        echo "failed: $1: status $2, $(cat "$work/notes")"
+    fi
+}
+
+: >"$work/nothing"
+sample=$top/samples/one_unit.iamf
+
+"$tool" list <"$sample" >"$work/out" 2>"$work/notes"
+judge "0: the sample lists" $? 0 '' "$top/crates/iamf_tool/stdout"
+
+head -c 20 "$sample" | "$tool" list >"$work/out" 2>"$work/notes"
+judge "1: a cut sample is refused at its second OBU" $? 1 'refused 8 5' "$work/nothing"
+
+"$tool" lost <"$sample" >"$work/out" 2>"$work/notes"
+judge "2: a word that is no command" $? 2 'usage: iamf_tool COMMAND < INPUT > OUTPUT' "$work/nothing"
+
+(ulimit -v 300000 && head -c 400000000 /dev/zero | "$tool" list) >"$work/out" 2>"$work/notes"
+judge "3: more input than memory" $? 3 'out of memory' "$work/nothing"
+
+"$tool" list <"$work" >"$work/out" 2>"$work/notes"
+judge "4: a folder cannot be read" $? 4 'read failed' "$work/nothing"
+
+: >"$work/out"
+"$tool" list <"$sample" >/dev/full 2>"$work/notes"
+judge "5: a full device takes no byte" $? 5 'write failed' "$work/nothing"
+
+head -c 1073741825 /dev/zero | "$tool" list >"$work/out" 2>"$work/notes"
+judge "6: one byte more than 2^30" $? 6 'input too large' "$work/nothing"
+
+echo "$passed passed, $failed failed"
+[ "$failed" -eq 0 ]

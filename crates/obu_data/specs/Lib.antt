@@ -1,0 +1,8 @@
+pub mod Outcome
+pub mod ShapeView
+pub mod DefinitionView
+pub mod Adding
+pub mod BlockView
+pub mod BlockReading
+pub mod FrameReading
+pub mod Puts

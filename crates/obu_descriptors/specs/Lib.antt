@@ -1,0 +1,15 @@
+pub mod Payloads
+pub mod HeaderView
+pub mod SameRecord
+pub mod CodecWriting
+pub mod CodecView
+pub mod Outcome
+pub mod TimingView
+pub mod ParameterView
+pub mod LayerView
+pub mod AmbisonicsView
+pub mod ConfigView
+pub mod ElementView
+pub mod ElementReading
+pub mod Writing
+pub mod Channels

@@ -1,0 +1,72 @@
+ghost use Rattle.std.specs.Prelude.{◌≡◌, ◌++◌, IfOk};
+ghost use Rattle.spec_bits.specs.Bits.{all_bits};
+ghost use Rattle.spec_bits.specs.Cursor.{IsOnByte};
+ghost use Rattle.spec_syntax.specs.Payload.{IsValid, canon};
+ghost use Rattle.spec_syntax.specs.Reading.{read, start_of};
+ghost use Rattle.spec_descriptors.specs.SequenceHeader.{sequence_header};
+ghost use Rattle.spec_descriptors.specs.DescriptorFields.{sequence_header_fields};
+ghost use Rattle.obu_descriptors.specs.Payloads.{AnswersPayload, GivesPayload};
+ghost use Rattle.obu_descriptors.specs.HeaderView.{view_header};
+
+use crate::payload::whole;
+use iamf_bits::{Out, View};
+use spec_descriptors::DescriptorFault;
+use std::alloc::{AllocError, Global};
+
+/// A sequence header (IAMF 1.0.0, "IA Sequence Header OBU Syntax and Semantics").
+#[derive(Clone, Copy, Debug, PartialEq, Eq)]
+pub struct SequenceHeader<'a> {
+    /// The profile that a reader must support: 0 is simple, 1 is base.
+    pub primary: u8,
+    /// Another profile that the sequence meets.
+    pub additional: u8,
+    /// The bytes of the payload after the known fields.
+    pub tail: &'a [u8],
+}
+
+impl<'a> SequenceHeader<'a> {
+    /// Reads a payload. An error exactly where the payload begins with no sequence header: the fault of its
+    /// first field that cannot be read or is not allowed.
+    pub fn read(payload: &'a [u8]) -> Result<SequenceHeader<'a>, DescriptorFault>
+        ensures exact { AnswersPayload (λ f. DescriptorFault.Field f) sequence_header sequence_header_fields view_header (λ h. h.tail.now) result payload.now }
+        ensures valid { IfOk result (λ h. IsValid sequence_header sequence_header_fields (view_header h)) }
+        ensures reads { GivesPayload view_header (λ h. h.tail.now) result (read (λ f. DescriptorFault.Field f) sequence_header (start_of payload.now)) }
+    {
+        SequenceHeader::read_from(&mut whole(payload))
+    }
+
+    #[tactic(auto, unfolding(spec_descriptors::specs::SequenceHeader::sequence_header))]
+    fn read_from(view: &mut View<'a>) -> Result<SequenceHeader<'a>, DescriptorFault>
+        requires { IsOnByte view.old }
+        ensures { GivesPayload view_header (λ h. h.tail.now) result (read (λ f. DescriptorFault.Field f) sequence_header view.old) }
+    {
+        if view.take_bits(32)? != 0x6961_6d66 {
+            return Err(DescriptorFault::Code);
+        }
+        let primary = view.take_bits(8)? as u8;
+        if primary > 1 {
+            return Err(DescriptorFault::Profile);
+        }
+        let additional = view.take_bits(8)? as u8;
+        Ok(SequenceHeader {
+            primary,
+            additional,
+            tail: view.rest(),
+        })
+    }
+
+    /// Writes the canonical payload of a valid record: the fields in their shortest spelling, and then the tail.
+    /// An error only where memory is wanting.
+    #[tactic(auto, using(spec_syntax::proofs::Puts::append_law, crate::proofs::Written::bytes_put))]
+    pub fn write(&self, alloc: Global) -> Result<Vec<u8>, AllocError>
+        requires { IsValid sequence_header sequence_header_fields (view_header self.now) }
+        ensures { IfOk result (λ v. all_bits v.items ≡ canon (sequence_header_fields (view_header self.now)) ++ all_bits self.now.tail.now) }
+    {
+        let mut out = Out::new(alloc);
+        out.put_bits(0x6961_6d66, 32)?;
+        out.put_bits(u32::from(self.primary), 8)?;
+        out.put_bits(u32::from(self.additional), 8)?;
+        out.put_bytes(self.tail)?;
+        Ok(out.finish())
+    }
+}

@@ -1,0 +1,9 @@
+pub mod Outcome
+pub mod Puts
+pub mod MixGainView
+pub mod LoudnessView
+pub mod MixElementView
+pub mod SubMixView
+pub mod MixView
+pub mod MixReading
+pub mod SameMix

@@ -1,0 +1,5 @@
+pub mod Code
+pub mod Shape
+pub mod ParameterBlock
+pub mod AudioFrame
+pub mod BlockFieldLists

@@ -1,0 +1,10 @@
+pub mod Tests
+pub mod SequenceHeaderFields
+pub mod CodecConfigFields
+pub mod ParameterIs
+pub mod LayersIs
+pub mod AmbisonicsIs
+pub mod ElementIs
+pub mod ElementCounts
+pub mod MixGainSteps
+pub mod MixSteps

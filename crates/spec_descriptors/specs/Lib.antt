@@ -1,0 +1,12 @@
+pub mod Code
+pub mod SequenceHeader
+pub mod CodecConfig
+pub mod DescriptorFields
+pub mod ParameterDefinition
+pub mod Layers
+pub mod Ambisonics
+pub mod AudioElement
+pub mod MixGain
+pub mod MixPresentation
+pub mod ElementFields
+pub mod MixFields

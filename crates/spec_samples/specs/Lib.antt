@@ -1,0 +1,2 @@
+pub mod Lpcm
+pub mod Laws

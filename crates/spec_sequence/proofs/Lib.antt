@@ -1,0 +1,13 @@
+pub mod WholeBytes
+pub mod DescriptorBytes
+pub mod MixBytes
+pub mod BlockBytes
+pub mod BytesOfBits
+pub mod Tables
+pub mod Payloads
+pub mod Obus
+pub mod OneFault
+pub mod OneAnswer
+pub mod EitherAnswer
+pub mod FixedContext
+pub mod Encoded

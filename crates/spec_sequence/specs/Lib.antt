@@ -1,0 +1,12 @@
+pub mod Code
+pub mod Content
+pub mod Value
+pub mod Role
+pub mod Descriptors
+pub mod Profile
+pub mod Units
+pub mod Rules
+pub mod Reading
+pub mod Canonical
+pub mod Report
+pub mod Laws

@@ -1,0 +1,4 @@
+//! IAMF sequences: which OBU may follow which.
+#![tactic(auto)]
+
+pub mod admission;

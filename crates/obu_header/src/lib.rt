@@ -5,7 +5,9 @@ mod reading;
 #[cfg(test)]
 mod tests;
 mod view;
+mod writing;
 
 pub use reading::read_obu;
 pub use spec_obu::HeaderFault;
 pub use view::{ObuHead, ObuView, Trim};
+pub use writing::write_obu;

@@ -1,4 +1,5 @@
 use super::*;
+use iamf_bits::Out;
 use spec_obu::plain_fault;
 use std::test::Fail;
 
@@ -44,4 +45,21 @@ fn faults_come_in_their_order(rt: HostRuntime) {
         );
         assert_eq!(rt; plain_fault(bytes), Some(fault), "{bytes:?}");
     }
+}
+
+#[test]
+fn an_obu_is_written_canonically(rt: HostRuntime) -> Result<(), Fail> {
+    let head = ObuHead {
+        kind: 6,
+        redundant: false,
+        trim: Some(Trim { end: 1, start: 2 }),
+        extension: Some(&[9]),
+    };
+    let mut out = Out::new(rt.alloc());
+    write_obu(rt.alloc(), &mut out, &head, &[1, 2])?;
+    assert_eq!(rt;
+        out.finish().as_slice(),
+        b"\x33\x06\x01\x02\x01\x09\x01\x02".as_slice()
+    );
+    Ok(())
 }

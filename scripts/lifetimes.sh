@@ -25,7 +25,7 @@ copy_repository() {
             [ ! -d "$crate$part" ] || cp -R "$crate$part" "$work/crates/$name" || return
         done
     done
-    echo 'misuse: iamf_bits obu_header' >>"$work/crates.txt" && mkdir -p "$work/crates/misuse/src"
+    echo 'misuse: iamf_bits iamf_sequence obu_header' >>"$work/crates.txt" && mkdir -p "$work/crates/misuse/src"
 }
 
 program() {
@@ -34,6 +34,7 @@ program() {
 #![tactic(auto)]
 
 use iamf_bits::View;
+use iamf_sequence::decode;
 use obu_header::read_obu;
 use std::alloc::{AllocError, Global};
 use std::process::ExitCode;
@@ -63,9 +64,26 @@ fn payload_of_obu(alloc: Global) -> Result<usize, AllocError> {
     Ok(length)
 }
 
+// The bytes are no sequence, so 0 is answered.
+fn count_of_sequence(alloc: Global) -> Result<usize, AllocError> {
+    let seen_by_sequence = Vec::from_array(alloc, [0xc0u8, 0])?;
+    let count = {
+        let read = decode(alloc, &seen_by_sequence);
+        drop(seen_by_sequence); // too early
+        match read {
+            Ok(sequence) => sequence.count(),
+            Err(_) => 0,
+        }
+    };
+    drop(seen_by_sequence); // in time
+    Ok(count)
+}
+
 fn main(rt: HostRuntime) -> ExitCode {
-    match (left_of_view(rt.alloc()), payload_of_obu(rt.alloc())) {
-        (Ok(2), Ok(0)) => ExitCode::from(0),
+    let view = left_of_view(rt.alloc());
+    let obu = payload_of_obu(rt.alloc());
+    match (view, obu, count_of_sequence(rt.alloc())) {
+        (Ok(2), Ok(0), Ok(0)) => ExitCode::from(0),
         _ => ExitCode::from(1),
     }
 }
@@ -101,10 +119,12 @@ judge "views whose buffers live on are accepted" $?
 
 try_without 'in time'
 refused=$?
-[ "$refused" -ne 0 ] && [ "$(grep -c 'error' "$work/log")" -eq 2 ] && names_borrow_error seen_by_view
+[ "$refused" -ne 0 ] && [ "$(grep -c 'error' "$work/log")" -eq 3 ] && names_borrow_error seen_by_view
 judge "a View that outlives its buffer is refused" $?
-[ "$refused" -ne 0 ] && [ "$(grep -c 'error' "$work/log")" -eq 2 ] && names_borrow_error seen_by_obu
+[ "$refused" -ne 0 ] && [ "$(grep -c 'error' "$work/log")" -eq 3 ] && names_borrow_error seen_by_obu
 judge "an ObuView that outlives its buffer is refused" $?
+[ "$refused" -ne 0 ] && [ "$(grep -c 'error' "$work/log")" -eq 3 ] && names_borrow_error seen_by_sequence
+judge "a Sequence that outlives its buffer is refused" $?
 
 echo "$passed passed, $failed failed"
 [ "$failed" -eq 0 ]

@@ -1,5 +1,6 @@
 #!/bin/sh
-# Shows each status of the built program once, with what then stands on standard output and standard error.
+# Shows each status of the built program, and an answer of each command, with what then stands on standard output and
+# standard error.
 #
 # The program is $IAMF_TOOL, or the one that the launcher builds. Status 7 needs a system that does not give a
 # program its words, and is not shown. The last line is `N passed, M failed`.
@@ -31,6 +32,19 @@ sample=$top/samples/one_unit.iamf
 
 "$tool" list <"$sample" >"$work/out" 2>"$work/notes"
 judge "0: the sample lists" $? 0 '' "$top/crates/iamf_tool/stdout"
+
+printf '%s\n' 'profile 0 0' 'codec 0 ipcm 8 48000 16' 'element 1 scalable 1 2' 'mix 2 1 1 fits' \
+    'units 1' 'samples 8' >"$work/report"
+"$tool" check <"$sample" >"$work/out" 2>"$work/notes"
+judge "0: the sample is accepted" $? 0 '' "$work/report"
+
+"$tool" canon <"$sample" >"$work/out" 2>"$work/notes"
+judge "0: the sample is canonical" $? 0 '' "$sample"
+
+for command in check canon; do
+    head -c 68 "$sample" | "$tool" $command >"$work/out" 2>"$work/notes"
+    judge "1: $command: a sample without its frame is refused at its end" $? 1 'refused 68 39' "$work/nothing"
+done
 
 head -c 20 "$sample" | "$tool" list >"$work/out" 2>"$work/notes"
 judge "1: a cut sample is refused at its second OBU" $? 1 'refused 8 5' "$work/nothing"

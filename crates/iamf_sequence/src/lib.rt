@@ -1,4 +1,28 @@
-//! IAMF sequences: which OBU may follow which.
+//! IAMF sequences: read from bytes with their temporal units, written canonically, and reported on.
 #![tactic(auto)]
 
-pub mod admission;
+mod content;
+mod decoding;
+mod draft;
+mod encoding;
+mod kept;
+mod lines;
+mod originals;
+mod parts;
+mod refusal;
+mod reporting;
+mod rules;
+mod sequence;
+mod shape;
+mod summing;
+mod unit;
+
+pub use decoding::decode;
+pub use encoding::{encode, encode_obu};
+pub use lines::Summary;
+pub use refusal::{DecodeError, Refusal};
+pub use reporting::report;
+pub use sequence::Sequence;
+pub use spec_sequence::Fault;
+pub use summing::summary;
+pub use unit::Unit;

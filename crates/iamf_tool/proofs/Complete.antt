@@ -3,6 +3,7 @@ use Rattle.std.proofs.Common.{ℕ, ◌+◌, ◌^◌, ◌≤◌, inl, inr, List, 
 use Rattle.std.specs.Prelude.{IfSome}
 use Rattle.iamf_io.specs.Whole.{TakesCount}
 use Rattle.spec_obu.proofs.OneOutcome.{excluded}
+use Rattle.spec_sequence.proofs.OneAnswer.{reads_is_not_refused}
 use Rattle.iamf_tool.specs.declared.command.Command.{Command}
 use Rattle.iamf_tool.specs.declared.command.Command.TheVariants as command
 use Rattle.iamf_tool.specs.declared.status.Status.{Status}
@@ -14,6 +15,8 @@ use Rattle.iamf_tool.specs.Complete.{CompletesOn, Completes}
 -- no command gives both an output and a refusal
 one_kind : (c : Command) (b output : List ℕ) (place code : ℕ) → Outcome c b (Output output) → Outcome c b (Refusal place code) → ⊥
 one_kind command.List b output place code lists refuses = excluded 0 b output place refuses.0 lists refuses.1
+one_kind command.Check b output place code reads refuses = reads_is_not_refused b reads.0 place refuses.0 reads.1 refuses.1
+one_kind command.Canon b output place code reads refuses = reads_is_not_refused b reads.0 place refuses.0 reads.1 refuses.1
 
 told : (o : Option (List ℕ)) (P Q : List ℕ → Type 0) → IfSome o P → ((b : List ℕ) → P b → Q b) → IfSome o Q
 told None P Q p step = tt

@@ -6,6 +6,10 @@ ghost use Rattle.iamf_tool.specs.Words.{command_named, command_of};
 pub enum Command {
     /// One line for each OBU.
     List,
+    /// The report of a sequence.
+    Check,
+    /// The canonical spelling of a sequence.
+    Canon,
 }
 
 // The command of this name.
@@ -14,6 +18,12 @@ fn command_named(word: &str) -> Option<Command>
 {
     if word == "list" {
         return Some(Command::List);
+    }
+    if word == "check" {
+        return Some(Command::Check);
+    }
+    if word == "canon" {
+        return Some(Command::Canon);
     }
     None
 }

@@ -53,8 +53,11 @@ pub fn list_lines(alloc: Global, bytes: &[u8]) -> Result<Answer, AllocError>
         let obu = match read_obu(bytes, at) {
             Ok(obu) => obu,
             Err(fault) => {
-                let code = fault.code();
-                return Ok(Answer::Refusal { at, code });
+                let code = u32::from(fault.code());
+                return Ok(Answer::Refusal {
+                    at: at as u64,
+                    code,
+                });
             }
         };
         push_line(&mut text, &obu)?;

@@ -16,7 +16,7 @@ pub fn note<N: Sink>(notes: &mut N, line: &[u8])
 }
 
 /// The line of a refusal.
-pub fn refusal(alloc: Global, at: usize, code: u8) -> Result<Vec<u8>, AllocError>
+pub fn refusal(alloc: Global, at: u64, code: u32) -> Result<Vec<u8>, AllocError>
     ensures { IfOk result (λ line. line.items ≡ refusal_line at code) }
 {
     let mut digits = Buffer::new();

@@ -1,4 +1,4 @@
-ghost use Rattle.std.specs.Prelude.{◌≡◌, None, Some};
+ghost use Rattle.std.specs.Prelude.{◌≡◌, ◌≤◌, ◌^◌, length, None, Some};
 ghost use Rattle.iamf_tool.specs.declared.command.Command.{Command};
 ghost use Rattle.iamf_tool.specs.Words.{command_of};
 ghost use Rattle.iamf_tool.specs.Answers.{view_answer};
@@ -39,7 +39,7 @@ fn deliver<W: Sink, N: Sink>(output: &[u8], out: &mut W, notes: &mut N) -> Statu
 }
 
 // Notes the place and the number of a refusal.
-fn refuse<N: Sink>(alloc: Global, at: usize, code: u8, notes: &mut N) -> Status
+fn refuse<N: Sink>(alloc: Global, at: u64, code: u32, notes: &mut N) -> Status
     ensures { Refuses result at code
         (side (N.held notes.old) (N.held notes.new) (N.faults notes.old) (N.faults notes.new)) }
 {
@@ -55,7 +55,7 @@ fn refuse<N: Sink>(alloc: Global, at: usize, code: u8, notes: &mut N) -> Status
     }
 }
 
-// Writes what the command gives for the whole input, or notes why it gives nothing.
+// Writes what the command gives for the whole input, of at most 2^30 bytes, or notes why it gives nothing.
 fn conclude<W: Sink, N: Sink>(
     alloc: Global,
     command: Command,
@@ -63,6 +63,7 @@ fn conclude<W: Sink, N: Sink>(
     out: &mut W,
     notes: &mut N,
 ) -> Status
+    requires { length bytes.now ≤ 2 ^ 30 }
     ensures { Concludes result command bytes.now
         (side (W.held out.old) (W.held out.new) (W.faults out.old) (W.faults out.new))
         (side (N.held notes.old) (N.held notes.new) (N.faults notes.old) (N.faults notes.new)) }

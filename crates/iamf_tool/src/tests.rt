@@ -1,85 +1,33 @@
+mod case;
+mod parts;
+mod refusals;
+mod sequences;
+
 ghost use Rattle.std.specs.Prelude.{None};
 
 use crate::run::run;
 use crate::status::Status;
-use iamf_io::{Failed, MemorySink, MemorySource, Source};
-use std::alloc::{AllocError, Global};
+use case::Case;
+use iamf_io::{Failed, MemorySink, Source};
+use parts::{DELIMITER, DESCRIPTORS, HEAD, SAMPLES};
 use std::test::Fail;
 
-// One stereo unit of 16-bit LPCM: a sequence header, a codec config, an audio element, a mix presentation, a
-// temporal delimiter and an audio frame of 32 sample bytes.
-const ONE_UNIT: [u8; 102] = [
-    0xf8, 0x06, 0x69, 0x61, 0x6d, 0x66, 0x00, 0x00, 0x00, 0x0e, 0x00, 0x69, 0x70, 0x63, 0x6d, 0x08,
-    0x00, 0x00, 0x01, 0x10, 0x00, 0x00, 0xbb, 0x80, 0x08, 0x0a, 0x01, 0x00, 0x00, 0x01, 0x00, 0x00,
-    0x20, 0x10, 0x01, 0x01, 0x10, 0x1c, 0x02, 0x00, 0x01, 0x01, 0x01, 0x00, 0x00, 0x64, 0x80, 0xf7,
-    0x02, 0x80, 0x00, 0x00, 0x65, 0x80, 0xf7, 0x02, 0x80, 0x00, 0x00, 0x01, 0x80, 0x00, 0x00, 0x00,
-    0x00, 0x00, 0x20, 0x00, 0x30, 0x20, 0x00, 0x01, 0x02, 0x03, 0x04, 0x05, 0x06, 0x07, 0x08, 0x09,
-    0x0a, 0x0b, 0x0c, 0x0d, 0x0e, 0x0f, 0x10, 0x11, 0x12, 0x13, 0x14, 0x15, 0x16, 0x17, 0x18, 0x19,
-    0x1a, 0x1b, 0x1c, 0x1d, 0x1e, 0x1f,
-];
+// One temporal unit.
+const ONE_UNIT: &[&[u8]] = &[DESCRIPTORS, DELIMITER, HEAD, SAMPLES];
 
 const ITS_LINES: &[u8] =
     b"0 31 8 ---\n8 0 16 ---\n24 1 12 ---\n36 2 30 ---\n66 4 2 ---\n68 6 34 ---\n";
 
-// What a run takes, and how it ends.
-#[derive(Drop)]
-struct Case<'a> {
-    word: &'a str,
-    input: &'a [u8],
-    // How many bytes a read gives at most.
-    piece: usize,
-    read_fails: &'a [u64],
-    // How many bytes a write takes at most.
-    most: usize,
-    write_fails: &'a [u64],
-    note_fails: &'a [u64],
-    status: Status,
-    out: &'a [u8],
-    notes: &'a [u8],
-}
-
-impl<'a> Case<'a> {
-    // A run on `list` where nothing fails.
-    fn list(input: &'a [u8], status: Status, out: &'a [u8], notes: &'a [u8]) -> Case<'a> {
-        Case {
-            word: "list",
-            input,
-            piece: 4096,
-            read_fails: &[],
-            most: 4096,
-            write_fails: &[],
-            note_fails: &[],
-            status,
-            out,
-            notes,
-        }
-    }
-
-    // Whether the run ends so.
-    fn holds(&self, alloc: Global) -> Result<bool, AllocError> {
-        let mut words = Vec::new(alloc);
-        words.push(String::from_str(alloc, self.word)?)?;
-        if self.piece == 0 || self.most == 0 {
-            return Ok(false);
-        }
-        let mut source = MemorySource::new(alloc, self.input, &[self.piece], self.read_fails)?;
-        let mut out = MemorySink::new(alloc, 4096, self.most, self.write_fails)?;
-        let mut notes = MemorySink::new(alloc, 4096, 4096, self.note_fails)?;
-        let status = run(alloc, &words, &mut source, &mut out, &mut notes);
-        Ok(status == self.status && out.bytes() == self.out && notes.bytes() == self.notes)
-    }
-}
-
 #[test]
 fn one_unit_of_lpcm_lists_in_whole_and_in_pieces_of_one(rt: HostRuntime) -> Result<(), Fail> {
-    let whole = Case::list(&ONE_UNIT, Status::Done, ITS_LINES, b"");
+    let whole = Case::writes("list", ONE_UNIT, &[ITS_LINES]);
     assert!(rt; whole.holds(rt.alloc())?);
     let pieces = Case {
         piece: 1,
-        ..Case::list(&ONE_UNIT, Status::Done, ITS_LINES, b"")
+        ..Case::writes("list", ONE_UNIT, &[ITS_LINES])
     };
     assert!(rt; pieces.holds(rt.alloc())?);
-    let empty = Case::list(b"", Status::Done, b"", b"");
+    let empty = Case::writes("list", &[], &[]);
     assert!(rt; empty.holds(rt.alloc())?);
     Ok(())
 }
@@ -90,8 +38,8 @@ fn flags_have_their_letters(rt: HostRuntime) -> Result<(), Fail> {
     // OBU may have an extension.
     let flags = b"\xc4\x00\x32\x02\x03\x05\xc1\x02\x01\x00";
     let lines = b"0 24 2 r--\n2 6 4 -t-\n6 24 4 --x\n";
-    assert!(rt; Case::list(flags, Status::Done, lines, b"").holds(rt.alloc())?);
-    let redundant = Case::list(b"\x24\x00", Status::Refused, b"", b"refused 0 3\n");
+    assert!(rt; Case::writes("list", &[flags], &[lines]).holds(rt.alloc())?);
+    let redundant = Case::refuses("list", &[b"\x24\x00"], b"refused 0 3\n");
     assert!(rt; redundant.holds(rt.alloc())?);
     Ok(())
 }
@@ -110,7 +58,7 @@ fn faulty_headers_are_refused_by_place_and_number(rt: HostRuntime) -> Result<(),
         (b"\x32\x01\x03", b"refused 0 4\n"),
     ];
     for (input, notes) in cases {
-        assert!(rt; Case::list(input, Status::Refused, b"", notes).holds(rt.alloc())?);
+        assert!(rt; Case::refuses("list", &[input], notes).holds(rt.alloc())?);
     }
     Ok(())
 }
@@ -121,10 +69,11 @@ fn words_that_are_no_command_read_nothing(rt: HostRuntime) -> Result<(), Fail> {
         word: "lists",
         // Even the first read would fail.
         read_fails: &[0],
-        ..Case::list(
-            &ONE_UNIT,
+        ..Case::ends(
+            "list",
+            ONE_UNIT,
             Status::Usage,
-            b"",
+            &[],
             b"usage: iamf_tool COMMAND < INPUT > OUTPUT\n",
         )
     };
@@ -137,28 +86,35 @@ fn failures_of_the_outside_have_their_status(rt: HostRuntime) -> Result<(), Fail
     let third_read = Case {
         piece: 40,
         read_fails: &[2],
-        ..Case::list(&ONE_UNIT, Status::ReadFault, b"", b"read failed\n")
+        ..Case::ends("list", ONE_UNIT, Status::ReadFault, &[], b"read failed\n")
     };
     assert!(rt; third_read.holds(rt.alloc())?);
     let second_write = Case {
         most: 10,
         write_fails: &[1],
-        ..Case::list(
-            &ONE_UNIT,
+        ..Case::ends(
+            "list",
+            ONE_UNIT,
             Status::WriteFault,
-            b"0 31 8 ---",
+            &[b"0 31 8 ---"],
             b"write failed\n",
         )
     };
     assert!(rt; second_write.holds(rt.alloc())?);
     let flush = Case {
         write_fails: &[1],
-        ..Case::list(&ONE_UNIT, Status::WriteFault, ITS_LINES, b"write failed\n")
+        ..Case::ends(
+            "list",
+            ONE_UNIT,
+            Status::WriteFault,
+            &[ITS_LINES],
+            b"write failed\n",
+        )
     };
     assert!(rt; flush.holds(rt.alloc())?);
     let note = Case {
         note_fails: &[0],
-        ..Case::list(b"\xf8", Status::Refused, b"", b"")
+        ..Case::ends("list", &[b"\xf8"], Status::Refused, &[], b"")
     };
     assert!(rt; note.holds(rt.alloc())?);
     Ok(())

@@ -8,5 +8,6 @@ pub mod Units
 pub mod Rules
 pub mod Reading
 pub mod Canonical
+pub mod Parts
 pub mod Report
 pub mod Laws

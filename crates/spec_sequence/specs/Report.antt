@@ -5,15 +5,12 @@ use Rattle.std.specs.Fmt.{decimal}
 use Rattle.spec_descriptors.specs.SequenceHeader.{SequenceHeaderFields}
 use Rattle.spec_descriptors.specs.AudioElement.{ConfigFields, Scalable, Ambisonics, Other, AudioElementFields, coded_channels_of}
 use Rattle.spec_descriptors.specs.MixPresentation.{MixPresentationFields}
-use Rattle.spec_sequence.specs.Content.{Content, Header, Codec, Element, Mix, Block, Frame, Nothing}
 use Rattle.spec_sequence.specs.Value.{ObuValue}
-use Rattle.spec_sequence.specs.Role.{CodecRole, codec_role, Trim, Role, role, mix_role}
+use Rattle.spec_sequence.specs.Role.{CodecRole, codec_role, Trim, Role, mix_role}
 use Rattle.spec_sequence.specs.Descriptors.{frame_length}
 use Rattle.spec_sequence.specs.Profile.{fits}
 use Rattle.spec_sequence.specs.Units.{trims_in, unit_count}
-
-abbrev pub roles_of : List ObuValue → List Role
-roles_of s = map role s
+use Rattle.spec_sequence.specs.Parts.{roles_of, sequence_headers, codec_configs, audio_elements, mix_presentations}
 
 abbrev pub ended : List ℕ → List ℕ
 ended text = text ++ 10 ∷ []
@@ -52,19 +49,6 @@ abbrev pub mix_line : List Role → MixPresentationFields → List ℕ
 mix_line l m =
     ended (and_number (and_number (and_number (codes "mix") m.mix_presentation_id) (length m.sub_mixes)) (sum (map (λ s. length s.elements) m.sub_mixes)) ++ 32 ∷ fits_mark (fits l (mix_role m)))
 
--- one line for each plain descriptor, in the order in which they stand, which is that of their types
-abbrev pub content_line : List Role → Content → List ℕ
-content_line l (Header h) = header_line h
-content_line l (Codec c) = codec_line (codec_role c.codec_config_id c.num_samples_per_frame c.coding)
-content_line l (Element e) = element_line e
-content_line l (Mix m) = mix_line l m
-content_line l (Block b) = []
-content_line l (Frame s) = []
-content_line l Nothing = []
-
-abbrev pub descriptor_line : List Role → ObuValue → List ℕ
-descriptor_line l o = if o.head.redundant then [] else content_line l o.content
-
 -- ---- samples
 
 -- the samples of a channel that a unit keeps: its trims are those of its first frame
@@ -88,5 +72,10 @@ kept l = kept_up_to l (unit_count l)
 abbrev pub counts : List Role → List ℕ
 counts l = ended (and_number (codes "units") (unit_count l)) ++ ended (and_number (codes "samples") (kept l))
 
+-- a line each for the sequence header and the codec config, for each audio element and each mix presentation in their
+-- order, and for the counts
 unfoldable pub report : List ObuValue → List ℕ
-report s = flat_map (descriptor_line (roles_of s)) s ++ counts (roles_of s)
+report s =
+    flat_map header_line (sequence_headers s)
+    ++ (flat_map (λ c. codec_line (codec_role c.codec_config_id c.num_samples_per_frame c.coding)) (codec_configs s)
+    ++ (flat_map element_line (audio_elements s) ++ (flat_map (mix_line (roles_of s)) (mix_presentations s) ++ counts (roles_of s))))

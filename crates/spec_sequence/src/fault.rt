@@ -7,7 +7,7 @@ use spec_descriptors::{DescriptorFault, MixFault};
 use spec_obu::HeaderFault;
 
 /// Why bytes are no sequence. An OBU's header is tested first, then the rules and the payload in an order that depends on
-/// its type; `docs/FORMAT.md` has the order.
+/// its type; `docs/FORMAT_SEQUENCES.md` has the order.
 #[derive(Clone, Copy, Debug, PartialEq, Eq)]
 pub enum Fault {
     /// The header of an OBU.

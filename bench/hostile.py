@@ -1,0 +1,74 @@
+#!/usr/bin/env python3
+"""Measures how time and memory of `check` and `canon` grow on hostile streams; prints Markdown for docs/BENCHMARKS.md.
+
+Usage: bench/hostile.py [--quick]
+Each stream has many of one thing, and all of them are accepted sequences. It is measured at a size and at twice that size.
+The program is $IAMF_TOOL, or the proved one that the launcher built. --quick takes streams of some hundred OBUs.
+It ends with 1 where a run fails or its answer is wrong, and with 0 else, whatever was measured.
+"""
+
+import os
+import sys
+import tempfile
+from collections import namedtuple
+
+import streams
+from run import PROGRAM, Fails, best_of, head, met, row
+from sequences import expect_accepted
+
+GROWTH_LIMIT = 2.5
+MEMORY_LIMIT = 400
+QUICK = 1000
+
+Case = namedtuple("Case", "name write number")
+Cost = namedtuple("Cost", "seconds above")
+
+# The longest OBU has 2^21 bytes, which leaves no room for a million substream ids: that case ends at 500,000.
+CASES = [
+    Case("mix presentations, and a copy of each", streams.mixes, 200_000),
+    Case("substreams of one element, a frame of each", streams.substreams, 250_000),
+    Case("parameter blocks of one id", streams.blocks, 1_000_000),
+    Case("empty reserved OBUs", streams.reserved, 1 << 20),
+]
+
+
+def measure(folder, case, number):
+    """The costs of `check` and `canon`: seconds, and bytes an OBU above the input, of `canon` above its output too."""
+    path = os.path.join(folder, "hostile.iamf")
+    stream = case.write(path, number)
+    expect_accepted(folder, path, stream)
+    length = os.path.getsize(path)
+    (checking, check_peak), (writing, canon_peak) = best_of([[PROGRAM, "check"], [PROGRAM, "canon"]], path)
+    os.remove(path)
+    return (Cost(checking, (check_peak - length) / stream.obus),
+            Cost(writing, (canon_peak - 2 * length) / stream.obus))
+
+
+def report(folder, scale):
+    head("command", "many", "number", "s", "twice as many, s", "growth", f"below {GROWTH_LIMIT}",
+         "bytes an OBU", "twice as many", f"at most {MEMORY_LIMIT}")
+    for case in CASES:
+        number = case.number // scale
+        costs = measure(folder, case, number), measure(folder, case, 2 * number)
+        for command, once, twice in zip(("check", "canon"), *costs):
+            growth = twice.seconds / once.seconds
+            row(command, case.name, str(number), f"{once.seconds:.3f}", f"{twice.seconds:.3f}", f"{growth:.2f}",
+                met(growth < GROWTH_LIMIT), f"{once.above:.0f}", f"{twice.above:.0f}",
+                met(max(once.above, twice.above) <= MEMORY_LIMIT) if command == "check" else "no limit")
+
+
+def main():
+    quick = sys.argv[1:] == ["--quick"]
+    if sys.argv[1:] and not quick:
+        sys.exit("usage: bench/hostile.py [--quick]")
+    if not os.access(PROGRAM, os.X_OK):
+        sys.exit(f"bench/hostile.py: no program at {PROGRAM}: run ./iamf_tool once, or set IAMF_TOOL")
+    with tempfile.TemporaryDirectory() as folder:
+        try:
+            report(folder, QUICK if quick else 1)
+        except Fails as fault:
+            sys.exit(f"bench/hostile.py: {fault}")
+
+
+if __name__ == "__main__":
+    main()

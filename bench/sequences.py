@@ -1,0 +1,81 @@
+#!/usr/bin/env python3
+"""Measures `check` and `canon` against `list`, and prints a Markdown table for docs/BENCHMARKS.md.
+
+Usage: bench/sequences.py [--quick]
+The stream is LPCM of 7.1.4 in three layers, 24 bits and 1024 samples a frame, 500 MB. All three commands read the same file
+and take turns. The program is $IAMF_TOOL, or the proved one that the launcher built. --quick takes a smaller stream.
+It ends with 1 where a run fails or its answer is wrong, and with 0 else, whatever was measured.
+"""
+
+import os
+import sys
+import tempfile
+
+import streams
+from run import MB, MIB, PROGRAM, Fails, best_of, head, met, row, run_once
+
+CHECK_LIMIT = 1.5
+CANON_LIMIT = 3
+
+
+def last_lines(path):
+    """The last two lines of a file, and the end of the one before them; the rest is not read."""
+    with open(path, "rb") as lines:
+        lines.seek(max(0, os.path.getsize(path) - 100))
+        return lines.read().decode()
+
+
+def same_files(one, other):
+    with open(one, "rb") as a, open(other, "rb") as b:
+        while True:
+            piece = a.read(65536)
+            if piece != b.read(65536):
+                return False
+            if not piece:
+                return True
+
+
+def expect_accepted(folder, path, stream):
+    """`check` has to count the stream's units and samples, and `canon` to write the stream, which is canonical."""
+    name = os.path.basename(path)
+    written = os.path.join(folder, "written")
+    with open(written, "wb") as out:
+        run_once([PROGRAM, "check"], path, out)
+    if not last_lines(written).endswith(f"\nunits {stream.units}\nsamples {stream.samples}\n"):
+        raise Fails(f"check counts other units or samples in {name}")
+    with open(written, "wb") as out:
+        run_once([PROGRAM, "canon"], path, out)
+    if not same_files(path, written):
+        raise Fails(f"canon writes other bytes than {name}, which is canonical")
+    os.remove(written)
+
+
+def report(folder, size):
+    path = os.path.join(folder, "layered.iamf")
+    stream = streams.layered(path, size * MB)
+    expect_accepted(folder, path, stream)
+    length = os.path.getsize(path)
+    (listing, _), (checking, check_peak), (writing, canon_peak) = best_of(
+        [[PROGRAM, command] for command in ("list", "check", "canon")], path)
+    head("input", "list, s", "check, s", "check / list", f"at most {CHECK_LIMIT}", "canon, s", "canon / list",
+         f"at most {CANON_LIMIT}", "check: above the input, MiB", "canon: above input and output, MiB")
+    row(f"{size} MB of 7.1.4, {stream.obus} OBUs", f"{listing:.3f}", f"{checking:.3f}", f"{checking / listing:.2f}",
+        met(checking / listing <= CHECK_LIMIT), f"{writing:.3f}", f"{writing / listing:.2f}",
+        met(writing / listing <= CANON_LIMIT), f"{(check_peak - length) / MIB:.1f}", f"{(canon_peak - 2 * length) / MIB:.1f}")
+
+
+def main():
+    quick = sys.argv[1:] == ["--quick"]
+    if sys.argv[1:] and not quick:
+        sys.exit("usage: bench/sequences.py [--quick]")
+    if not os.access(PROGRAM, os.X_OK):
+        sys.exit(f"bench/sequences.py: no program at {PROGRAM}: run ./iamf_tool once, or set IAMF_TOOL")
+    with tempfile.TemporaryDirectory() as folder:
+        try:
+            report(folder, 5 if quick else 500)
+        except Fails as fault:
+            sys.exit(f"bench/sequences.py: {fault}")
+
+
+if __name__ == "__main__":
+    main()

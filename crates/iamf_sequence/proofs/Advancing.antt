@@ -1,0 +1,115 @@
+-- One more OBU of the bytes, or the first fault.
+use Rattle.std.proofs.Common.{◌≡◌, ℕ, ◌-◌, ◌<◌, ◌≤◌, List, [], ◌∷◌, ◌++◌, take, drop, length, refl, sym, ap, subst, ◌∙◌, arith, append_assoc, append-nil, length-drop}
+use Rattle.std.specs.Prelude.{Option, Some, Err}
+use Rattle.std.proofs.lemmas.List.{map-append, take-append-drop, length-take-le}
+use Rattle.std.proofs.Math.Seq.{take-add, drop-length}
+use Rattle.spec_obu.specs.declared.HeaderFault.{HeaderFault}
+use Rattle.spec_obu.specs.Header.{Head, Header}
+use Rattle.spec_obu.specs.Faults as header
+use Rattle.spec_sequence.specs.declared.fault.Fault.{Fault}
+use Rattle.spec_sequence.specs.declared.fault.Fault.TheVariants as fault
+use Rattle.spec_sequence.specs.Value.{Spells}
+use Rattle.spec_sequence.specs.Role.{Role, role}
+use Rattle.spec_sequence.specs.Rules.{end_fault}
+use Rattle.spec_sequence.specs.Reading.{Entry, roles, context_after, IsAdmissible, AdmittedAfter, Admitted, FailsAt, AtEnd, OfHeader, OfObu, Refuses}
+use Rattle.spec_sequence.proofs.FixedContext as context
+use Rattle.spec_sequence.proofs.FixedContext.{keeps-nil, keeps-push}
+use Rattle.iamf_admission.specs.declared.admission.AdmitError.{AdmitError}
+use Rattle.iamf_admission.specs.declared.admission.AdmitError.TheVariants as admit
+use Rattle.obu_header.specs.declared.view.ObuView.{ObuView}
+use Rattle.obu_header.specs.View.{head_of}
+use Rattle.iamf_sequence.specs.declared.draft.Draft.{Draft}
+use Rattle.iamf_sequence.specs.declared.parts.Placed.{Placed}
+use Rattle.iamf_sequence.specs.declared.refusal.DecodeError.{DecodeError}
+use Rattle.iamf_sequence.specs.declared.refusal.DecodeError.TheVariants as errors
+use Rattle.iamf_sequence.specs.Places.{not_taken_at, refused_at, IsRefused}
+use Rattle.iamf_sequence.specs.DraftView.{number_after, IsDraft, IsTaken, Fails}
+use Rattle.iamf_sequence.specs.SequenceView.{AreViews, numbers_after, views_of, IsWalked, Finishes}
+use Rattle.iamf_sequence.proofs.Copies.{roles_more}
+use Rattle.iamf_sequence.proofs.Tiling.{tiles_more}
+
+-- ---- lists
+
+keeps_after : (past : List Entry) (bytes : List ℕ) (es : List Entry) → context.Keeps past → AdmittedAfter past bytes es → context.Keeps (past ++ es)
+keeps_after past bytes [] k h = subst context.Keeps (sym (append-nil past)) k
+keeps_after past bytes (e ∷ es) k h = subst context.Keeps (append_assoc past (e ∷ []) es) (keeps_after (past ++ e ∷ []) h.1 es (keeps-push past e k h.3.payload_is h.4) h.5)
+
+pub keeps_admitted : (bytes : List ℕ) (es : List Entry) → Admitted bytes es → context.Keeps es
+keeps_admitted bytes es h = keeps_after [] bytes es keeps-nil h
+
+admitted_last : (past : List Entry) (bytes piece : List ℕ) (es : List Entry) (e : Entry) → AdmittedAfter past bytes es → Spells (context_after (past ++ es)) e.value e.payload piece → IsAdmissible (past ++ es) e
+    → AdmittedAfter past (bytes ++ piece) (es ++ e ∷ [])
+admitted_last past bytes piece [] e h s a =
+    let same : past ++ [] ≡ past = append-nil past in
+    (piece, [], ap (λ (b : List ℕ). b ++ piece) h ∙ sym (append-nil piece), subst (λ (p : List Entry). Spells (context_after p) e.value e.payload piece) same s, subst (λ (p : List Entry). IsAdmissible p e) same a, refl)
+admitted_last past bytes piece (x ∷ xs) e h s a =
+    let same : past ++ x ∷ xs ≡ (past ++ x ∷ []) ++ xs = sym (append_assoc past (x ∷ []) xs) in (
+      h.0,
+      h.1 ++ piece,
+      ap (λ (b : List ℕ). b ++ piece) h.2 ∙ append_assoc h.0 h.1 piece,
+      h.3,
+      h.4,
+      admitted_last (past ++ x ∷ []) h.1 piece xs e h.5 (subst (λ (p : List Entry). Spells (context_after p) e.value e.payload piece) same s) (subst (λ (p : List Entry). IsAdmissible p e) same a),
+    )
+
+views_last : (os : List ObuView) (o : ObuView) (es : List Entry) (e : Entry) → AreViews os es → head_of o.head ≡ e.value.head → o.payload.now ≡ e.payload → AreViews (os ++ o ∷ []) (es ++ e ∷ [])
+views_last [] o [] e h head payload = (head, payload, tt)
+views_last (x ∷ xs) o (y ∷ ys) e h head payload = (h.0, h.1, views_last xs o ys e h.2 head payload)
+views_last [] o (y ∷ ys) e h head payload = absurd h
+views_last (x ∷ xs) o [] e h head payload = absurd h
+
+numbers_last : (l os : List Role) (o : Role) → numbers_after l (os ++ o ∷ []) ≡ numbers_after l os ++ number_after (l ++ os) o ∷ []
+numbers_last l [] o = ap (λ (m : List Role). number_after m o ∷ []) (sym (append-nil l))
+numbers_last l (x ∷ xs) o =
+    ap (λ (ns : List (Option ℕ)). number_after l x ∷ ns) (numbers_last (l ++ x ∷ []) xs o ∙ ap (λ (m : List Role). numbers_after (l ++ x ∷ []) xs ++ number_after m o ∷ []) (append_assoc l (x ∷ []) xs))
+
+-- ---- one more OBU
+
+pub walked_more : (bytes : List ℕ) (at : ℕ) (old new : Draft) (obus : List Placed) (p : Placed) (l : List Entry) (e : Entry) → IsWalked bytes at old obus l → p.view.at ≡ at → at < p.view.end
+    → Header (head_of p.view.head) p.view.payload.now (take (p.view.end - at) (drop at bytes)) → IsTaken l p.view p.unit e → IsDraft new (l ++ e ∷ []) → IsWalked bytes p.view.end new (obus ++ p ∷ []) (l ++ e ∷ [])
+walked_more bytes at old new obus p l e is place onward header taken draft =
+    let piece : List ℕ = take (p.view.end - at) (drop at bytes) in
+    let spelled : Header e.value.head e.payload piece =
+    subst (λ (h : Head). Header h e.payload piece) (sym taken.head) (subst (λ (b : List ℕ). Header (head_of p.view.head) b piece) (sym taken.payload) header) in
+    let grown : take p.view.end bytes ≡ take at bytes ++ piece = ap (λ (n : ℕ). take n bytes) (omega (arith, onward)) ∙ take-add at (p.view.end - at) bytes in
+    record {
+      admitted = subst (λ (b : List ℕ). Admitted b (l ++ e ∷ [])) (sym grown) (admitted_last [] (take at bytes) piece l e is.admitted (record { header = spelled; payload_is = taken.payload_is }) taken.admissible);
+      draft = draft;
+      views = subst (λ (vs : List ObuView). AreViews vs (l ++ e ∷ [])) (sym (map-append (λ o. o.view) obus (p ∷ []))) (views_last (views_of obus) p.view l e is.views (sym taken.head) (sym taken.payload));
+      tiles = tiles_more bytes 0 at obus p is.tiles place onward header;
+      numbers = map-append (λ o. o.unit) obus (p ∷ []) ∙ ap (λ (ns : List (Option ℕ)). ns ++ p.unit ∷ []) is.numbers ∙ ap (λ (n : Option ℕ). numbers_after [] (roles l) ++ n ∷ []) taken.unit
+          ∙ sym (ap (numbers_after []) (roles_more l e) ∙ numbers_last [] (roles l) (role e.value));
+    }
+
+-- ---- the first fault
+
+refuses : (bytes : List ℕ) (at : ℕ) (l : List Entry) (f : Fault) → at ≤ length bytes → Admitted (take at bytes) l → FailsAt l (drop at bytes) f → Refuses bytes at f
+refuses bytes at l f within admitted fails = record {
+  good = take at bytes;
+  rest = drop at bytes;
+  entries = l;
+  splits = sym (take-append-drop at bytes);
+  place = sym (length-take-le at bytes within);
+  admitted = admitted;
+  fails = fails;
+}
+
+some_left : (bytes : List ℕ) (at : ℕ) → at < length bytes → drop at bytes ≡ [] → ⊥
+some_left bytes at before none = omega (arith, before, ap length none, length-drop at bytes)
+
+pub header_refused : (bytes : List ℕ) (at : ℕ) (l : List Entry) (h : HeaderFault) → at < length bytes → Admitted (take at bytes) l → header.IsFirstFault h (drop at bytes) → IsRefused bytes (refused_at at (fault.Header h))
+header_refused bytes at l h before admitted first = refuses bytes at l (fault.Header h) (omega (arith, before)) admitted (OfHeader h first (some_left bytes at before) refl)
+
+pub obu_refused : (bytes : List ℕ) (at : ℕ) (l : List Entry) (view : ObuView) (error : AdmitError) → at < length bytes → Admitted (take at bytes) l
+    → Header (head_of view.head) view.payload.now (take (view.end - at) (drop at bytes)) → Fails error l view → IsRefused bytes (not_taken_at at error)
+obu_refused bytes at l view (admit.Fault f) before admitted header fails =
+    refuses bytes at l f (omega (arith, before)) admitted
+    (OfObu (head_of view.head) view.payload.now (take (view.end - at) (drop at bytes)) (drop (view.end - at) (drop at bytes)) (sym (take-append-drop (view.end - at) (drop at bytes))) header fails)
+obu_refused bytes at l view (admit.Memory e) before admitted header fails = tt
+
+pub end_refused : (bytes : List ℕ) (at : ℕ) (l : List Entry) (f : Fault) → at ≡ length bytes → Admitted (take (length bytes) bytes) l → end_fault (roles l) ≡ Some f → IsRefused bytes (refused_at at f)
+end_refused bytes at l f is admitted fails = subst (λ (n : ℕ). Refuses bytes n f) (sym is) (refuses bytes (length bytes) l f (omega arith) admitted (AtEnd (drop-length bytes) fails))
+
+pub finish_refused : (bytes : List ℕ) (l : List Entry) (e : DecodeError) → Admitted (take (length bytes) bytes) l → Finishes bytes l (Err e) → IsRefused bytes e
+finish_refused bytes l (errors.Refused r) admitted h = end_refused bytes r.at l r.fault h.0 admitted h.1
+finish_refused bytes l (errors.Memory e) admitted h = tt

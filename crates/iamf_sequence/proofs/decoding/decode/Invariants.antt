@@ -1,0 +1,15 @@
+use Rattle.std.proofs.Common.{length, List, ◌-◌, ◌≤◌}
+use Rattle.spec_sequence.specs.Reading.{Entry}
+use Rattle.iamf_sequence.specs.RulesView.{number_of}
+use Rattle.iamf_sequence.specs.SequenceView.{IsWalked}
+use Rattle.iamf_sequence.proofs.decoding.decode.Given as goal
+
+abbrev pub invariant-loop-at : goal.invariant-loop-at
+invariant-loop-at l = record {
+  number : number_of l.draft.rules ≤ l.at;
+  within : l.at ≤ length l.buffer;
+  walked : (es : List Entry) × IsWalked l.buffer l.at l.draft l.obus.items es;
+}
+
+abbrev pub decreases-loop-at : goal.decreases-loop-at
+decreases-loop-at l = length l.buffer - l.at

@@ -1,0 +1,77 @@
+-- What a sequence holds of its OBUs.
+use Rattle.std.specs.Prelude.{◌≡◌, ℕ, List, [], ◌∷◌, ◌++◌, map, length, take, Option, Some, None, Result, Ok, Err}
+use Rattle.std.specs.List.{All}
+use Rattle.spec_descriptors.specs.CodecConfig.{CodecConfigFields}
+use Rattle.spec_sequence.specs.Role.{Role}
+use Rattle.spec_sequence.specs.Descriptors.{definitions}
+use Rattle.spec_sequence.specs.Rules.{end_fault}
+use Rattle.spec_sequence.specs.Report.{kept}
+use Rattle.spec_sequence.specs.Reading.{Entry, values_of, roles, Admitted}
+use Rattle.spec_sequence.specs.Parts.{sequence_headers, codec_configs, audio_elements, mix_presentations, temporal_units}
+use Rattle.obu_header.specs.declared.view.ObuView.{ObuView}
+use Rattle.obu_header.specs.View.{head_of}
+use Rattle.obu_descriptors.specs.HeaderView.{view_header}
+use Rattle.obu_descriptors.specs.CodecView.{StandsForCodec}
+use Rattle.obu_descriptors.specs.ElementView.{view_element}
+use Rattle.obu_mix.specs.MixView.{view_mix}
+use Rattle.iamf_sequence.specs.declared.parts.Placed.{Placed}
+use Rattle.iamf_sequence.specs.declared.parts.Parts.{Parts}
+use Rattle.iamf_sequence.specs.ContentView.{IsElement}
+use Rattle.iamf_sequence.specs.UnitView.{AreUnits}
+use Rattle.iamf_sequence.specs.Places.{Tiles, IsRefused}
+use Rattle.iamf_sequence.specs.declared.draft.Draft.{Draft}
+use Rattle.iamf_sequence.specs.declared.refusal.DecodeError.{DecodeError}
+use Rattle.iamf_sequence.specs.declared.refusal.DecodeError.TheVariants as errors
+use Rattle.iamf_sequence.specs.DraftView.{IsDraft, number_after}
+
+-- each view is of its OBU
+abbrev pub AreViews : List ObuView → List Entry → Type 0
+AreViews [] [] = Unit {0}
+AreViews (o ∷ os) (e ∷ es) = (head_of o.head ≡ e.value.head) × (o.payload.now ≡ e.payload) × AreViews os es
+AreViews _ _ = ⊥
+
+-- the numbers of the units of OBUs that stand after others
+abbrev pub numbers_after : List Role → List Role → List (Option ℕ)
+numbers_after l [] = []
+numbers_after l (o ∷ os) = number_after l o ∷ numbers_after (l ++ o ∷ []) os
+
+abbrev pub views_of : List Placed → List ObuView
+views_of obus = map (λ o. o.view) obus
+
+-- The bytes are spellings of these OBUs one after the other, which are a sequence. It has their views, which tile the
+-- bytes, their descriptors, their temporal units and the parameter definitions.
+pub record IsSequence (p : Parts) (l : List Entry) : Type 0 where
+  pub admitted : Admitted p.buffer.now l
+  pub whole : end_fault (roles l) ≡ None
+  pub views : AreViews (views_of p.obus.items) l
+  pub tiles : Tiles p.buffer.now 0 (views_of p.obus.items) (length p.buffer.now)
+  pub numbers : map (λ o. o.unit) p.obus.items ≡ numbers_after [] (roles l)
+  pub header : sequence_headers (values_of l) ≡ view_header p.header ∷ []
+  pub codec : (c : CodecConfigFields) × (codec_configs (values_of l) ≡ c ∷ []) × StandsForCodec p.codec c
+  pub elements : map view_element p.elements.items ≡ audio_elements (values_of l)
+  pub valid : All IsElement p.elements.items
+  pub mixes : map view_mix p.mixes.items ≡ mix_presentations (values_of l)
+  pub units : AreUnits p.units.items (temporal_units (values_of l))
+  pub definitions_are : p.definitions ≡ definitions (roles l)
+  pub kept_is : p.kept ≡ kept (roles l)
+
+-- ---- while it is read
+
+-- Up to a place the bytes are spellings of these OBUs, for which the draft stands.
+pub record IsWalked (bytes : List ℕ) (at : ℕ) (d : Draft) (obus : List Placed) (l : List Entry) : Type 0 where
+  pub admitted : Admitted (take at bytes) l
+  pub draft : IsDraft d l
+  pub views : AreViews (views_of obus) l
+  pub tiles : Tiles bytes 0 (views_of obus) at
+  pub numbers : map (λ o. o.unit) obus ≡ numbers_after [] (roles l)
+
+-- What one more OBU of the bytes gives: it is taken in up to its end, or the bytes are refused.
+abbrev pub TakesNext : List ℕ → Draft → List Placed → Result ℕ DecodeError → Type 0
+TakesNext bytes d obus (Ok end) = (l : List Entry) × IsWalked bytes end d obus l
+TakesNext bytes d obus (Err e) = IsRefused bytes e
+
+-- what is made of all OBUs of the bytes
+abbrev pub Finishes : List ℕ → List Entry → Result Parts DecodeError → Type 0
+Finishes bytes l (Ok p) = IsSequence p l × (p.buffer.now ≡ bytes)
+Finishes bytes l (Err (errors.Refused r)) = (r.at ≡ length bytes) × (end_fault (roles l) ≡ Some r.fault)
+Finishes bytes l (Err (errors.Memory e)) = Unit {0}

@@ -1,0 +1,77 @@
+-- What is kept of a temporal unit (IAMF 1.0.0, "Temporal Unit").
+use Rattle.std.specs.Prelude.{◌≡◌, ℕ, ◌==◌, ◌<◌, nat_lt, if◌then◌else◌, List, [], ◌∷◌, ◌++◌, length, map, find, Option, Some, None}
+use Rattle.std.specs.Borrow.{Bor}
+use Rattle.std.specs.List.{All}
+use Rattle.spec_sequence.specs.Role as role
+use Rattle.spec_sequence.specs.Parts.{FrameValue, BlockValue, UnitValue}
+use Rattle.obu_header.specs.declared.view.Trim.{Trim}
+use Rattle.obu_data.specs.BlockView.{view_block, bytes_after}
+use Rattle.obu_data.specs.declared.frame.FrameView.{FrameView}
+use Rattle.obu_data.specs.declared.parameter_block.ParameterBlock.{ParameterBlock}
+use Rattle.iamf_sequence.specs.declared.unit.Unit as temporal
+
+abbrev pub view_trim : Trim → role.Trim
+view_trim trim = record { end = trim.end; start = trim.start }
+
+abbrev pub view_frame : FrameView → FrameValue
+view_frame f = record { substream = f.substream; trim = view_trim f.trim; bytes = f.bytes.now }
+
+abbrev pub view_block_value : ParameterBlock → BlockValue
+view_block_value b = record { fields = view_block b; tail = bytes_after b }
+
+-- the trims of the first frame, 0 and 0 before it
+abbrev pub first_trim : List FrameValue → role.Trim
+first_trim [] = record { end = 0; start = 0 }
+first_trim (f ∷ fs) = f.trim
+
+-- ---- while it is read: its frames in the order in which they stand
+
+abbrev pub view_unit : temporal.Unit → UnitValue
+view_unit u = record { frames = map view_frame u.frames.items; blocks = map view_block_value u.blocks.items }
+
+abbrev pub HasTrim : temporal.Unit → Type 0
+HasTrim u = view_trim u.trim ≡ first_trim (map view_frame u.frames.items)
+
+-- the units with that of the number, which is the last one or the next
+abbrev pub opened : ℕ → List UnitValue → List UnitValue
+opened number units = if nat_lt number (length units) then units else units ++ record { frames = []; blocks = [] } ∷ []
+
+abbrev pub with_frame : FrameView → UnitValue → UnitValue
+with_frame f v = record { frames = v.frames ++ view_frame f ∷ []; blocks = v.blocks }
+
+abbrev pub with_block : ParameterBlock → UnitValue → UnitValue
+with_block b v = record { frames = v.frames; blocks = v.blocks ++ view_block_value b ∷ [] }
+
+-- the last unit is changed
+abbrev pub change_last : (UnitValue → UnitValue) → List UnitValue → List UnitValue
+change_last change [] = []
+change_last change (v ∷ []) = change v ∷ []
+change_last change (v ∷ w ∷ units) = v ∷ change_last change (w ∷ units)
+
+-- ---- once it is read
+
+-- the first frame of the substream
+abbrev pub frame_with : ℕ → List FrameValue → Option FrameValue
+frame_with substream frames = find (λ f. f.substream == substream) frames
+
+-- each frame is of a greater substream than those before it
+abbrev pub AreIncreasing : List FrameValue → Type 0
+AreIncreasing [] = Unit {0}
+AreIncreasing (f ∷ fs) = All (λ g. f.substream < g.substream) fs × AreIncreasing fs
+
+-- The unit holds these frames, each found by its substream, their trims, and these blocks in their order.
+pub record IsUnit (u : temporal.Unit) (v : UnitValue) : Type 0 where
+  pub trim : view_trim u.trim ≡ first_trim v.frames
+  pub increasing : AreIncreasing (map view_frame u.frames.items)
+  pub frames : (substream : ℕ) → frame_with substream (map view_frame u.frames.items) ≡ frame_with substream v.frames
+  pub blocks : map view_block_value u.blocks.items ≡ v.blocks
+
+abbrev pub AreUnits : List temporal.Unit → List UnitValue → Type 0
+AreUnits [] [] = Unit {0}
+AreUnits (u ∷ us) (v ∷ vs) = IsUnit u v × AreUnits us vs
+AreUnits _ _ = ⊥
+
+-- what was found is the frame
+abbrev pub FindsFrame : Option (Bor FrameView) → Option FrameValue → Type 0
+FindsFrame None found = found ≡ None
+FindsFrame (Some f) found = found ≡ Some (view_frame f.now)

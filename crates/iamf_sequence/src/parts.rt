@@ -1,0 +1,31 @@
+//! What a sequence is made of.
+
+use crate::unit::Unit;
+use obu_data::Definitions;
+use obu_descriptors::{AudioElement, CodecConfig, SequenceHeader};
+use obu_header::ObuView;
+use obu_mix::MixPresentation;
+
+/// An OBU of a sequence.
+#[derive(Clone, Copy)]
+pub struct Placed<'a> {
+    pub(crate) view: ObuView<'a>,
+    /// The number of its temporal unit, where it has one.
+    pub(crate) unit: Option<usize>,
+}
+
+/// The parts of a sequence.
+#[derive(Drop)]
+pub struct Parts<'a> {
+    pub(crate) buffer: &'a [u8],
+    pub(crate) obus: Vec<Placed<'a>>,
+    pub(crate) header: SequenceHeader<'a>,
+    pub(crate) codec: CodecConfig<'a>,
+    pub(crate) elements: Vec<AudioElement<'a>>,
+    pub(crate) mixes: Vec<MixPresentation<'a>>,
+    pub(crate) units: Vec<Unit<'a>>,
+    /// The parameter definitions of the elements and the mixes.
+    pub(crate) definitions: Definitions,
+    /// The number of samples of a channel that no trim leaves out.
+    pub(crate) kept: u64,
+}

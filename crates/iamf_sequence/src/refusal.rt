@@ -1,0 +1,37 @@
+//! Why bytes are no sequence, and where.
+
+ghost use Rattle.std.specs.Prelude.{◌≡◌};
+ghost use Rattle.spec_sequence.specs.Code.{code_of};
+
+use spec_sequence::Fault;
+use std::alloc::AllocError;
+use thiserror::Error;
+
+/// The first fault of bytes, and where it stands.
+#[derive(Clone, Copy, Debug, PartialEq, Eq)]
+pub struct Refusal {
+    /// The place of the first byte of the OBU that has the fault; the number of bytes where it is a fault of their end.
+    pub at: u64,
+    /// What is wrong.
+    pub fault: Fault,
+}
+
+impl Refusal {
+    /// The number of the fault.
+    pub fn code(&self) -> u32
+        ensures { result ≡ code_of self.now.fault }
+    {
+        self.fault.code()
+    }
+}
+
+/// Why bytes are not read.
+#[derive(Debug, Drop, Error)]
+pub enum DecodeError {
+    /// They are no sequence: this is their first fault.
+    #[error("the bytes are no sequence")]
+    Refused(Refusal),
+    /// Memory ran out.
+    #[error("out of memory")]
+    Memory(AllocError),
+}

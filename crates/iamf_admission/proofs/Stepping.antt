@@ -9,7 +9,8 @@ use Rattle.std.proofs.lemmas.Grind.{flat_map-append}
 use Rattle.std.proofs.lemmas.List.Folds.{list_any-append}
 use Rattle.spec_sequence.specs.Role as role
 use Rattle.spec_sequence.specs.Role.{Role, Ignored, SequenceHeader, CodecConfig, AudioElement, MixPresentation, Delimiter, ParameterBlock, AudioFrame, ElementRole, MixRole}
-use Rattle.spec_sequence.specs.Descriptors.{rank, profile_of, codec_of, element_of, mix_of, substreams_of, definitions_of, pairs_of, pairs_in, profiles, codecs, elements, mixes, substreams, first_length, frame_length, definitions, with_definition, channels_in}
+use Rattle.spec_blocks.specs.Shape.{with_definition}
+use Rattle.spec_sequence.specs.Descriptors.{rank, profile_of, codec_of, element_of, mix_of, substreams_of, definitions_of, pairs_of, pairs_in, profiles, codecs, elements, mixes, substreams, first_length, frame_length, definitions, channels_in}
 use Rattle.spec_sequence.specs.Profile.{first_profile, channels_of_element, plus, channels_of_sub_mix, fits_channels, fits_sub_mixes, has_fit}
 use Rattle.spec_sequence.specs.Units.{contains, is_none_of}
 use Rattle.spec_sequence.specs.Rules.{element_ids, is_out_of_order}

@@ -1,16 +1,11 @@
 -- The number that stands among the bits of bytes.
-use Rattle.std.proofs.Common.{◌≡◌, ℕ, ◌+◌, ◌-◌, ◌*◌, ◌/◌, ◌%◌, ◌^◌, ◌<◌, ◌≤◌, true, false, List, [], ◌∷◌, ◌++◌, length, get_or, take, drop, refl, sym, ap, subst, ◌∙◌, arith, inl, inr, append_assoc, length-append}
+use Rattle.std.proofs.Common.{◌≡◌, ℕ, ◌+◌, ◌-◌, ◌*◌, ◌/◌, ◌%◌, ◌^◌, ◌<◌, ◌≤◌, List, [], ◌∷◌, ◌++◌, length, get_or, take, drop, refl, sym, ap, subst, ◌∙◌, arith, inl, inr, append_assoc}
 use Rattle.std.proofs.lemmas.Bool.{cases_lt}
 use Rattle.std.proofs.lemmas.List.{append-nil, take-append-drop, length-take-le, length-drop, take-append-le, drop-append-le, take_more}
-use Rattle.std.proofs.lemmas.Nat.{pow-add, shr_high, mod_low, pow_below}
+use Rattle.std.proofs.lemmas.Nat.{shr_high, mod_low, pow_below}
 use Rattle.spec_bits.specs.Bits.{Bits, number_of, bits_of, all_bits}
 use Rattle.spec_bits.proofs.BitsLaws.{length-bits_of, number_of-bound, number_of-bits_of, all_bits-append, length-all_bits}
-
-pub number_of-append : (a b : Bits) → number_of (a ++ b) ≡ number_of a * 2 ^ length b + number_of b
-unfolding number_of
-number_of-append [] b = omega arith
-number_of-append (true ∷ a) b = let p = pow-add 2 (length a) (length b) in rw (length-append a b, p) (omega (arith, number_of-append a b))
-number_of-append (false ∷ a) b = omega (arith, number_of-append a b)
+use Rattle.spec_bits.proofs.JoinLaws.{number_of-append}
 
 -- the bits between are the number without its end and its front
 pub number_of-between : (bits : Bits) (used n : ℕ) → used + n ≤ length bits → number_of (take n (drop used bits)) ≡ number_of bits / 2 ^ (length bits - (used + n)) % 2 ^ n

@@ -1,15 +1,17 @@
 -- A place in a part of a buffer, and the fields there.
-use Rattle.std.proofs.Common.{◌≡◌, ℕ, ℤ, zero, suc, ◌+◌, ◌-◌, ◌*◌, ◌/◌, ◌<◌, ◌≤◌, Bool, true, false, ltb, List, [], ◌∷◌, ◌++◌, length, get_or, take, drop, Result, Ok, Err, refl, sym, ap, ◌∙◌, arith}
+use Rattle.std.proofs.Common.{◌≡◌, ℕ, ℤ, zero, suc, ◌+◌, ◌-◌, ◌*◌, ◌/◌, ◌<◌, ◌≤◌, Bool, true, false, ltb, List, [], ◌∷◌, length, get_or, take, drop, Result, Ok, Err, refl, sym, ap, ◌∙◌, arith}
 use Rattle.std.specs.Prelude.{slice_range}
 use Rattle.std.proofs.lemmas.Bool.{lt-ltb, le-ltb}
-use Rattle.std.proofs.lemmas.List.{append-nil, drop_at, length-take-le, length-drop, drop-drop, drop-take, drop_all}
+use Rattle.std.proofs.lemmas.List.{length-take-le, length-drop, drop-drop, drop-take}
 use Rattle.spec_bits.specs.declared.FieldFault.{FieldFault}
 use Rattle.spec_bits.specs.declared.FieldFault.TheVariants.{Short}
-use Rattle.spec_bits.specs.Bits.{Bits, AreBytes, number_of, bits_of, all_bits, signed_of, whole_bytes}
+use Rattle.spec_bits.specs.Bits.{Bits, AreBytes, number_of, all_bits, signed_of}
 use Rattle.spec_bits.specs.ByteReading.{◌>>=◌, leb_at, text_at, bytes_at}
 use Rattle.spec_bits.specs.Form.{Number, Signed, Leb128, String, Bytes, Reserved}
 use Rattle.spec_bits.specs.Cursor.{Cursor, bits_left, bytes_left, bytes_of, moved, field_at, field_front, in_bytes}
-use Rattle.spec_bits.proofs.BitsLaws.{length-bits_of, length-all_bits, whole_bytes-append, whole_bytes-short}
+use Rattle.spec_bits.proofs.Outcomes.{done, ok_is, ok_both_is}
+use Rattle.spec_bits.proofs.BitsLaws.{length-all_bits, drop-all_bits}
+use Rattle.spec_bits.proofs.ByteForms.{bytes_of-all_bits}
 
 pub AreBytes-from : (xs : List ℕ) → ((i : ℕ) → get_or xs i 0 < 256) → AreBytes xs
 AreBytes-from [] h = tt
@@ -18,14 +20,6 @@ AreBytes-from (x ∷ xs) h = (h 0, AreBytes-from xs (λ i. h (suc i)))
 -- the place after `used` bits of the byte `at`, in a buffer that is read up to `end`
 abbrev pub cursor : List ℕ → ℕ → ℕ → ℕ → Cursor
 cursor buf end at used = record { bytes = take end buf; place = 8 * at + used }
-
-drop-all_bits : (k : ℕ) (xs : List ℕ) → drop (8 * k) (all_bits xs) ≡ all_bits (drop k xs)
-unfolding all_bits
-drop-all_bits zero xs = refl
-drop-all_bits (suc k) [] = drop_all (8 * suc k) [] (omega arith)
-drop-all_bits (suc k) (x ∷ xs) =
-    let e : 8 * suc k ≡ 8 + 8 * k = omega arith in
-    rw (e, ← drop-drop (8 * k) 8 (bits_of 8 x ++ all_bits xs), drop_at (bits_of 8 x) (all_bits xs) 8 (length-bits_of 8 x)) (drop-all_bits k xs)
 
 drop-part : (buf : List ℕ) (end at : ℕ) → at ≤ end → drop at (take end buf) ≡ slice_range buf at end
 drop-part buf end at le =
@@ -64,23 +58,13 @@ number_found buf end at used n v le within enough is =
     let value : number_of (take n (bits_left (cursor buf end at used))) ≡ v = ap (λ (b : Bits). number_of (take n b)) (bits_left-is buf end at used le) ∙ is in
     rw (t, value) refl
 
-abbrev found : {A : Type 0} → A → Result A FieldFault
-found x = Ok x
-
-ok_is : {A : Type 0} (x y : A) → found x ≡ found y → x ≡ y
-ok_is x y e = cc
-
 abbrev one_of : {A : Type 0} → Bool → A → Result A FieldFault
 one_of b x = elim b [ true ↦ Err Short | false ↦ Ok x ]
 
 -- the same bits as a number in two's complement
 signed_same : (k : ℕ) (b : Bool) (front : Bits) (v : ℕ) (c d : Cursor) → one_of {A = ℕ × Cursor} b (number_of front, c) ≡ Ok (v, d) → one_of {A = ℤ × Cursor} b (signed_of k (number_of front), c) ≡ Ok (signed_of k v, d)
 signed_same k true front v c d e = absurd cc
-signed_same k false front v c d e = ap (λ (x : ℕ × Cursor). Ok (signed_of k x.0, x.1)) (ok_is (number_of front, c) (v, d) e)
-
-signed_fails : (k : ℕ) (b : Bool) (front : Bits) (f : FieldFault) (c : Cursor) → one_of {A = ℕ × Cursor} b (number_of front, c) ≡ Err f → one_of {A = ℤ × Cursor} b (signed_of k (number_of front), c) ≡ Err f
-signed_fails k true front f c e = cc
-signed_fails k false front f c e = absurd cc
+signed_same k false front v c d e = ap (λ (x : ℕ × Cursor). Ok (signed_of k x.0, x.1)) (ok_is {F = FieldFault} (number_of front, c) (v, d) e)
 
 pub signed_there : (k v : ℕ) (c d : Cursor) → field_at (Number k) c ≡ Ok (v, d) → field_at (Signed k) c ≡ Ok (signed_of k v, d)
 unfolding field_at field_front
@@ -103,8 +87,8 @@ pub reserved_there : (k v : ℕ) (c d : Cursor) → field_at (Number k) c ≡ Ok
 unfolding field_at field_front
 reserved_there k v c d e = go (ltb (length (bits_left c)) k) refl
   where
-    same : (front : ℕ) (c d : Cursor) → found {A = ℕ × Cursor} (front, c) ≡ found (v, d) → c ≡ d
-    same front c d e = ap (λ (x : ℕ × Cursor). x.1) (ok_is (front, c) (v, d) e)
+    same : (front : ℕ) (c d : Cursor) → done {A = ℕ × Cursor} {F = FieldFault} (front, c) ≡ done (v, d) → c ≡ d
+    same front c d e = (ok_both_is (front, c) (v, d) e).1
 
     go : (b : Bool) → ltb (length (bits_left c)) k ≡ b → field_at (Reserved k) c ≡ Ok (tt, d)
     go true t = absurd (let no = rw t at e in cc)
@@ -119,14 +103,6 @@ reserved_short k c f e = go (ltb (length (bits_left c)) k) refl
     go false t = absurd (let no = rw t at e in cc)
 
 -- ---- byte fields: on a byte they are read from the bytes there
-
-pub bytes_of-all_bits : (xs : List ℕ) → AreBytes xs → bytes_of (all_bits xs) ≡ xs
-bytes_of-all_bits xs are =
-    let k : length (all_bits xs) ≡ length xs + 7 * length xs = omega (arith, length-all_bits xs) in
-    let none : whole_bytes (7 * length xs) [] ≡ [] = whole_bytes-short (7 * length xs) [] (omega arith) in
-    ap (λ (n : ℕ). whole_bytes n (all_bits xs)) k
-    ∙ ap (whole_bytes (length xs + 7 * length xs)) (sym (append-nil (all_bits xs)))
-    ∙ whole_bytes-append xs (7 * length xs) [] are ∙ ap (λ (ys : List ℕ). xs ++ ys) none ∙ append-nil xs
 
 -- the bytes that are left, as the bits that are left
 pub bits_left-bytes : (buf : List ℕ) (end at : ℕ) → at ≤ end → bits_left (cursor buf end at 0) ≡ all_bits (slice_range buf at end)

@@ -1,36 +1,15 @@
 -- Bits and bytes that are put one after the other.
-use Rattle.std.proofs.Common.{◌≡◌, ℕ, zero, suc, ◌+◌, ◌-◌, ◌*◌, ◌/◌, ◌%◌, ◌^◌, ◌<◌, ◌≤◌, true, false, leb, ltb, List, [], ◌∷◌, ◌++◌, length, take, drop, set, append_assoc, length-append, refl, sym, ap, subst, ◌∙◌, arith, inl, inr}
+use Rattle.std.proofs.Common.{◌≡◌, ℕ, zero, suc, ◌+◌, ◌-◌, ◌*◌, ◌/◌, ◌%◌, ◌^◌, ◌<◌, ◌≤◌, true, false, ltb, List, [], ◌∷◌, ◌++◌, length, take, drop, set, append_assoc, refl, sym, ap, subst, ◌∙◌, arith, inl, inr}
 use Rattle.std.proofs.lemmas.List.{take_all, take_more_set, length-set}
-use Rattle.std.proofs.lemmas.Bool.{cases_lt, lt-leb, lt-ltb, le-ltb}
+use Rattle.std.proofs.lemmas.Bool.{cases_lt, lt-ltb, le-ltb}
 use Rattle.std.proofs.lemmas.Nat.{shr_below, shr_split, mod_below, mod-pow-add, pow_pos, pow-add}
-use Rattle.std.proofs.Math.Nat.{mul-le-mul_right, pow-suc, mod-eq_of_lt}
+use Rattle.std.proofs.Math.Nat.{pow-suc, mod-eq_of_lt}
 use Rattle.std.specs.Prelude.{slice_range}
 use Rattle.std.specs.Int.{w64, byte_at, bytes_high_first, to_be_bytes}
-use Rattle.spec_bits.specs.Bits.{Bits, number_of, bits_of, all_bits, zeros}
+use Rattle.spec_bits.specs.Bits.{Bits, bits_of, all_bits}
 use Rattle.spec_bits.specs.Leb.{leb_within, leb_bytes}
-use Rattle.spec_bits.proofs.BitsLaws.{length-bits_of, number_of-bits_of, bits_of-number_of, all_bits-append}
-use Rattle.iamf_bits.proofs.Numbers.{number_of-append}
-
--- ---- numbers
-
-pub bits_of-join : (a b x y : ℕ) → x < 2 ^ a → y < 2 ^ b → bits_of (a + b) (x * 2 ^ b + y) ≡ bits_of a x ++ bits_of b y
-bits_of-join a b x y small small' =
-    let both = bits_of a x ++ bits_of b y in
-    let len : length both ≡ a + b = length-append (bits_of a x) (bits_of b y) ∙ ap (λ (k : ℕ). k + length (bits_of b y)) (length-bits_of a x) ∙ ap (λ (k : ℕ). a + k) (length-bits_of b y) in
-    let value : number_of both ≡ x * 2 ^ b + y =
-    number_of-append (bits_of a x) (bits_of b y) ∙ ap (λ (k : ℕ). number_of (bits_of a x) * 2 ^ k + number_of (bits_of b y)) (length-bits_of b y)
-    ∙ ap (λ (k : ℕ). k * 2 ^ b + number_of (bits_of b y)) (number_of-bits_of a x small) ∙ ap (λ (k : ℕ). x * 2 ^ b + k) (number_of-bits_of b y small') in
-    subst (λ (k : ℕ). bits_of k (x * 2 ^ b + y) ≡ both) len (subst (λ (n : ℕ). bits_of (length both) n ≡ both) value (bits_of-number_of both))
-
-pub join_below : (a b x y : ℕ) → x < 2 ^ a → y < 2 ^ b → x * 2 ^ b + y < 2 ^ (a + b)
-join_below a b x y small small' =
-    let step : (x + 1) * 2 ^ b ≤ 2 ^ a * 2 ^ b = mul-le-mul_right (2 ^ b) (omega arith) in
-    rw (pow-add 2 a b) (omega (arith, step))
-
-pub bits_of-zeros : (k : ℕ) → bits_of k 0 ≡ zeros k
-unfolding bits_of
-bits_of-zeros zero = refl
-bits_of-zeros (suc k) = let t : leb (2 ^ k) 0 ≡ false = lt-leb _ _ (pow_pos k) in rw (t, bits_of-zeros k) refl
+use Rattle.spec_bits.proofs.BitsLaws.{all_bits-append}
+use Rattle.spec_bits.proofs.JoinLaws.{bits_of-join, join_below}
 
 -- ---- whole bytes of a number
 

@@ -2,13 +2,11 @@
 use Rattle.std.proofs.Common.{◌≡◌, ℕ, ◌+◌, ◌<◌, Bool, true, false, List, [], ◌∷◌, ◌++◌, length, get_or, take, drop, map, fold, refl, sym, ap, subst, ◌∙◌}
 use Rattle.std.specs.Prelude.{Some, None, Result, Ok, Err, if◌then◌else◌}
 use Rattle.std.specs.List.{flat_map}
-use Rattle.std.proofs.lemmas.List.{append-nil}
-use Rattle.std.proofs.lemmas.List.{take-append-drop}
+use Rattle.std.proofs.lemmas.List.{append-nil, take-append-drop}
 use Rattle.std.proofs.lemmas.Grind.{take_at_read, flat_map-append, fold-append}
-use Rattle.spec_blocks.specs.Shape.{Definition, shape_of}
+use Rattle.spec_blocks.specs.Shape.{Definition, shape_of, with_definition}
 use Rattle.spec_sequence.specs.declared.fault.Fault.{Fault}
 use Rattle.spec_sequence.specs.declared.fault.Fault.TheVariants.{ParamClash}
-use Rattle.spec_sequence.specs.Descriptors.{with_definition}
 use Rattle.spec_sequence.specs.Rules.{is_other, clashing}
 use Rattle.iamf_admission.specs.declared.admission.AdmitError.{AdmitError}
 use Rattle.iamf_admission.specs.declared.admission.AdmitError.TheVariants as errors

@@ -2,7 +2,7 @@
 use Rattle.std.proofs.Common.{◌≡◌, ℕ, zero, suc, ◌<◌, ◌≤◌, false, List, [], ◌∷◌, ◌++◌, length, get_or, map, sym, subst, ◌∙◌, arith}
 use Rattle.std.specs.Prelude.{Option, Some, None}
 use Rattle.std.specs.List.{All}
-use Rattle.std.proofs.lemmas.Bool.{or_parts, eqb-true, eqb-false}
+use Rattle.std.proofs.lemmas.Bool.{or_parts, eqb-true, eqb-false, not-false}
 use Rattle.spec_syntax.specs.Syntax.{Syntax, each}
 use Rattle.spec_syntax.specs.Payload.{FieldValue, IsValid, canon}
 use Rattle.spec_syntax.proofs.Fields.{Has, field_step, end_step, choice_step, check_step, bind_step, each_is}
@@ -10,7 +10,6 @@ use Rattle.spec_descriptors.specs.ParameterDefinition.{FixedFields, DefinitionFi
 use Rattle.spec_descriptors.specs.Layers.{LayerFields, layer_in, scalable_config}
 use Rattle.spec_descriptors.specs.AudioElement.{ParameterFields, Demixing, ReconGain, Extension, ConfigFields, AudioElementFields, is_refused_kind, demixing_definition, recon_gain_definition, extension_definition, parameter_in, scalable_of, config_of, element_front, audio_element}
 use Rattle.spec_descriptors.specs.ElementFields.{layer_fields, audio_element_fields}
-use Rattle.spec_descriptors.proofs.Tests.{not_false}
 use Rattle.spec_descriptors.proofs.LayersIs.{layer_is}
 use Rattle.spec_descriptors.proofs.ElementCounts.{Each}
 use Rattle.spec_sequence.specs.Role.{layers_of}
@@ -49,8 +48,8 @@ unfolding frame_timing
 timing_lasts n xs r h =
     field_step h λ duration ys e f p h1.
     field_step h1 λ constant ys1 e1 f1 p1 h2.
-    let one : duration ≡ n = eqb-true duration n (not_false _ p.0) in
-    let two : constant ≡ n = eqb-true constant n (not_false _ p1.0) in
+    let one : duration ≡ n = eqb-true duration n (not-false _ p.0) in
+    let two : constant ≡ n = eqb-true constant n (not-false _ p1.0) in
     choice_step h2
     (λ there h3.
     field_step h3 λ count ys2 e2 f2 p2 h4.
@@ -87,7 +86,7 @@ IsDefined n type (Extension kind bytes) = Unit {0}
 recon_is_scalable : (type kind : ℕ) (before : List ParameterFields) → kind ≡ 2 → is_refused_kind type before kind ≡ false → type ≡ 0
 recon_is_scalable type kind before two passed =
     let here = subst (λ (k : ℕ). is_refused_kind type before k ≡ false) two passed in
-    eqb-true type 0 (not_false _ (or_parts _ _ here).0)
+    eqb-true type 0 (not-false _ (or_parts _ _ here).0)
 
 parameter_defined : (n type after : ℕ) (before : List ParameterFields) (xs : List FieldValue) (r : ParameterFields) → Has (parameter_in n type after before) xs r → IsDefined n type r
 unfolding parameter_in demixing_definition recon_gain_definition extension_definition

@@ -11,7 +11,7 @@ use Rattle.spec_obu.specs.Canonical.{canonical_trim, canonical_extension, canoni
 use Rattle.spec_sequence.specs.Content.{Context}
 use Rattle.spec_sequence.specs.Value.{ObuValue, Spells}
 use Rattle.spec_sequence.specs.Canonical.{canonical_payload, canonical_obu, encoded}
-use Rattle.spec_sequence.proofs.BytesOfBits.{bytes-append, bytes-parts}
+use Rattle.spec_bits.proofs.ByteForms.{AreBytes-append, AreBytes-parts}
 use Rattle.spec_sequence.proofs.Payloads.{canonical_payload_is}
 use Rattle.spec_sequence.proofs.Obus.{canonical_spells}
 use Rattle.iamf_sequence.specs.declared.parts.Placed.{Placed}
@@ -65,18 +65,18 @@ all_put n ds ps os i old new end before h = before ∙ ap (λ (l : List ObuValue
 
 trim_bytes : (t : Option (ℕ × ℕ)) (b : List ℕ) → IsTrim t b → AreBytes (canonical_trim t)
 trim_bytes None b h = tt
-trim_bytes (Some t) b h = bytes-append (leb_bytes t.0) (leb_bytes t.1) (leb_canonical t.0 h.2.below).0 (leb_canonical t.1 h.3.below).0
+trim_bytes (Some t) b h = AreBytes-append (leb_bytes t.0) (leb_bytes t.1) (leb_canonical t.0 h.2.below).0 (leb_canonical t.1 h.3.below).0
 
 extension_bytes : (x : Option (List ℕ)) (b : List ℕ) → AreBytes b → IsExtension x b → AreBytes (canonical_extension x)
 extension_bytes None b are h = tt
-extension_bytes (Some x) b are h = bytes-append (leb_bytes (length x)) x (leb_canonical (length x) h.1.below).0 (bytes-parts h.0 x (subst AreBytes h.2 are)).1
+extension_bytes (Some x) b are h = AreBytes-append (leb_bytes (length x)) x (leb_canonical (length x) h.1.below).0 (AreBytes-parts h.0 x (subst AreBytes h.2 are)).1
 
 -- ---- the canonical spelling of an OBU whose bytes are bytes
 
 extension_of : (h : Head) (payload piece : List ℕ) → (is : Header h payload piece) → AreBytes piece → AreBytes is.extension
 extension_of h payload piece is are =
     let whole : AreBytes (first_byte h ∷ is.size ++ (is.trim ++ (is.extension ++ payload))) = subst AreBytes is.bytes are in
-    (bytes-parts is.extension payload (bytes-parts is.trim (is.extension ++ payload) (bytes-parts is.size (is.trim ++ (is.extension ++ payload)) whole.1).1).1).0
+    (AreBytes-parts is.extension payload (AreBytes-parts is.trim (is.extension ++ payload) (AreBytes-parts is.size (is.trim ++ (is.extension ++ payload)) whole.1).1).1).0
 
 head_byte : (h : Head) (payload piece : List ℕ) → (is : Header h payload piece) → AreBytes piece → first_byte h < 256
 head_byte h payload piece is are = let whole : AreBytes (first_byte h ∷ is.size ++ (is.trim ++ (is.extension ++ payload))) = subst AreBytes is.bytes are in whole.0
@@ -88,13 +88,13 @@ canonical_bytes context o payload piece s are =
     let new = canonical_payload o in
     let again = canonical_spells context o payload piece s in
     let front : AreBytes (canonical_extension h.extension ++ new) =
-    bytes-append (canonical_extension h.extension) new (extension_bytes h.extension s.header.extension (extension_of h payload piece s.header are) s.header.extension_is) (canonical_payload_is context h.kind o.content o.tail payload s.payload_is).is.bytes in
-    let body : AreBytes (canonical_body h new) = bytes-append (canonical_trim h.trim) (canonical_extension h.extension ++ new) (trim_bytes h.trim s.header.trim s.header.trim_is) front in
+    AreBytes-append (canonical_extension h.extension) new (extension_bytes h.extension s.header.extension (extension_of h payload piece s.header are) s.header.extension_is) (canonical_payload_is context h.kind o.content o.tail payload s.payload_is).is.bytes in
+    let body : AreBytes (canonical_body h new) = AreBytes-append (canonical_trim h.trim) (canonical_extension h.extension ++ new) (trim_bytes h.trim s.header.trim s.header.trim_is) front in
     let size = (leb_canonical (length (canonical_body h new)) (omega (arith, again.header.short, length-append (leb_bytes (length (canonical_body h new))) (canonical_body h new)))).0 in
-    (head_byte h payload piece s.header are, bytes-append (leb_bytes (length (canonical_body h new))) (canonical_body h new) size body)
+    (head_byte h payload piece s.header are, AreBytes-append (leb_bytes (length (canonical_body h new))) (canonical_body h new) size body)
 
 pub encoded_bytes : (n : ℕ) (ds : List Definition) (ps : List Placed) (os : List ObuValue) → AreViewsOf n ds ps os → AreBytes (encoded os)
 encoded_bytes n ds [] [] h = tt
 encoded_bytes n ds [] (o ∷ os) h = absurd h
 encoded_bytes n ds (p ∷ ps) [] h = absurd h
-encoded_bytes n ds (p ∷ ps) (o ∷ os) h = bytes-append (canonical_obu o) (encoded os) (canonical_bytes _ o p.view.payload.now h.0.bytes h.0.spells h.0.are) (encoded_bytes n ds ps os h.1)
+encoded_bytes n ds (p ∷ ps) (o ∷ os) h = AreBytes-append (canonical_obu o) (encoded os) (canonical_bytes _ o p.view.payload.now h.0.bytes h.0.spells h.0.are) (encoded_bytes n ds ps os h.1)

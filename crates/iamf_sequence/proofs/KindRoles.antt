@@ -1,9 +1,8 @@
 -- The role of an OBU, by its kind.
 use Rattle.std.proofs.Common.{◌≡◌, ◌≤◌, ℕ, Bool, true, false, List, refl, sym, ap, ◌∙◌, arith}
 use Rattle.std.specs.Prelude.{◌==◌, nat_le, if◌then◌else◌}
-use Rattle.std.proofs.lemmas.Bool.{and_parts, eqb-true, leb-true}
+use Rattle.std.proofs.lemmas.Bool.{and_parts, eqb-true, leb-true, not-false}
 use Rattle.spec_obu.specs.Header.{Head}
-use Rattle.spec_descriptors.proofs.Tests.{not_false}
 use Rattle.spec_sequence.specs.Content.{Kind, SequenceHeader, CodecConfig, AudioElement, MixPresentation, ParameterBlock, TemporalDelimiter, AudioFrame, Reserved, kind_of, Content, Nothing}
 use Rattle.spec_sequence.specs.Role as roles
 use Rattle.spec_sequence.specs.Role.{role_in, plain_role}
@@ -54,7 +53,7 @@ pub usual_role : (h : Head) (c said : Content) (tail : List ℕ) (k : Kind) → 
 usual_role h c said tail k copy is usual same = go h.redundant refl ∙ ap (λ (x : Content). role_in h x tail) (sym same)
   where
     go : (b : Bool) → h.redundant ≡ b → plain_role h c tail ≡ role_in h c tail
-    go true e = absurd (usual (is ∙ reserved_kind h.kind (not_false (is_reserved h.kind) (rw e at copy))))
+    go true e = absurd (usual (is ∙ reserved_kind h.kind (not-false (is_reserved h.kind) (rw e at copy))))
     go false e = rw e refl
 
 pub reserved_role : (h : Head) (said : Content) (tail : List ℕ) → Reserved ≡ kind_of h.kind → said ≡ Nothing → roles.Ignored ≡ role_in h said tail

@@ -9,13 +9,13 @@ use Rattle.std.proofs.lemmas.List.Folds.{list_any-append}
 use Rattle.std.proofs.lemmas.Grind.{flat_map-append}
 use Rattle.spec_obu.specs.Header.{Head, Header}
 use Rattle.spec_obu.specs.Kinds.{is_audio_frame, is_descriptor_or_reserved}
-use Rattle.spec_blocks.specs.Shape.{Definition}
+use Rattle.spec_blocks.specs.Shape.{Definition, with_definition}
 use Rattle.spec_sequence.specs.declared.fault.Fault.{Fault}
 use Rattle.spec_sequence.specs.declared.fault.Fault.TheVariants as fault
 use Rattle.spec_sequence.specs.Content.{AudioElement, ParameterBlock, kind_of, Content, Context, Says, PayloadOf}
 use Rattle.spec_sequence.specs.Role.{CodecRole, Role, role_in}
 use Rattle.spec_sequence.specs.Role as role
-use Rattle.spec_sequence.specs.Descriptors.{codec_of, codecs, definitions_of, definitions, with_definition, first_length, frame_length, context_of}
+use Rattle.spec_sequence.specs.Descriptors.{codec_of, codecs, definitions_of, definitions, first_length, frame_length, context_of}
 use Rattle.spec_sequence.specs.Units.{is_data}
 use Rattle.spec_sequence.specs.Rules.{when}
 use Rattle.spec_sequence.specs.Reading.{Entry, roles, context_after, is_copy, is_copied, is_repeated, early_fault, AdmittedAfter}

@@ -4,11 +4,11 @@ use Rattle.std.specs.Prelude.{Result, Ok, Err, None}
 use Rattle.std.specs.List.{flat_map}
 use Rattle.std.proofs.lemmas.List.{append-nil}
 use Rattle.std.proofs.lemmas.Grind.{flat_map-append, fold-append}
-use Rattle.spec_blocks.specs.Shape.{Definition}
+use Rattle.spec_blocks.specs.Shape.{Definition, with_definition}
 use Rattle.spec_sequence.specs.Role.{CodecRole, Role, Ignored, SequenceHeader, codec_role}
 use Rattle.spec_sequence.specs.Rules.{fault_after}
 use Rattle.spec_descriptors.specs.CodecConfig.{CodingFields, Lpcm, Flac}
-use Rattle.spec_sequence.specs.Descriptors.{codecs, codec_of, definitions, definitions_of, with_definition, frame_length, context_of}
+use Rattle.spec_sequence.specs.Descriptors.{codecs, codec_of, definitions, definitions_of, frame_length, context_of}
 use Rattle.spec_syntax.specs.Payload.{IsValid}
 use Rattle.spec_descriptors.specs.AudioElement.{audio_element}
 use Rattle.spec_descriptors.specs.ElementFields.{audio_element_fields}

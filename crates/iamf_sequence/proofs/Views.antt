@@ -15,7 +15,7 @@ use Rattle.spec_sequence.specs.Role as role
 use Rattle.spec_sequence.specs.Descriptors.{codec_of, codecs, first_length, frame_length, definitions, context_of}
 use Rattle.spec_sequence.specs.Parts.{codec_in, of_plain, codec_configs}
 use Rattle.spec_sequence.specs.Reading.{Entry, values_of, roles, context_after, AdmittedAfter}
-use Rattle.spec_sequence.proofs.BytesOfBits.{bytes-parts, same_bytes}
+use Rattle.spec_bits.proofs.ByteForms.{AreBytes-parts, same_bytes}
 use Rattle.spec_sequence.proofs.FixedContext.{Keeps, keeps-nil, keeps-push}
 use Rattle.iamf_sequence.specs.declared.parts.Placed.{Placed}
 use Rattle.iamf_sequence.specs.declared.parts.Parts.{Parts}
@@ -75,7 +75,7 @@ views_after n ds past bytes [] [] are keeps h is views = tt
 views_after n ds past bytes [] (p ∷ ps) are keeps h is views = absurd views
 views_after n ds past bytes (e ∷ es) [] are keeps h is views = absurd views
 views_after n ds past bytes (e ∷ es) (p ∷ ps) are keeps h is views =
-    let parts = bytes-parts h.0 h.1 (subst AreBytes h.2 are) in
+    let parts = AreBytes-parts h.0 h.1 (subst AreBytes h.2 are) in
     let last : PayloadOf (context n ds) e.value.head.kind e.value.content e.value.tail e.payload =
     subst (λ (x : Context). PayloadOf x e.value.head.kind e.value.content e.value.tail e.payload) is (lasting past bytes e es keeps h) in
     let spells : Spells (context n ds) e.value e.payload h.0 = record { header = h.3.header; payload_is = last } in

@@ -12,7 +12,8 @@ use Rattle.spec_sequence.specs.Content.{Content, Context, kind_of, PayloadOf, fi
 use Rattle.spec_sequence.specs.Value.{ObuValue}
 use Rattle.spec_sequence.specs.Canonical.{packed, canonical_obu}
 use Rattle.spec_sequence.proofs.WholeBytes.{fills_spelling}
-use Rattle.spec_sequence.proofs.BytesOfBits.{packed_is, same_bytes}
+use Rattle.spec_bits.proofs.ByteForms.{same_bytes}
+use Rattle.spec_sequence.proofs.BytesOfBits.{packed_is}
 use Rattle.spec_sequence.proofs.Tables.{table, says_by}
 use Rattle.spec_sequence.proofs.Payloads.{payload_of, canonical_payload_is, one_content, not_both}
 use Rattle.spec_sequence.proofs.Obus.{never_longer}

@@ -1,9 +1,8 @@
 -- What adding the parameter definitions of an OBU answers.
 use Rattle.std.specs.Prelude.{◌≡◌, ℕ, ◌≤◌, List, [], ◌∷◌, fold, length, Some, None, Result, Ok, Err}
-use Rattle.spec_blocks.specs.Shape.{Shape, Definition}
+use Rattle.spec_blocks.specs.Shape.{Shape, Definition, with_definition}
 use Rattle.spec_descriptors.specs.Layers.{LayerFields}
 use Rattle.spec_descriptors.specs.AudioElement.{ParameterFields, Demixing, ReconGain, Extension}
-use Rattle.spec_sequence.specs.Descriptors.{with_definition}
 use Rattle.spec_sequence.specs.Rules.{clashing}
 use Rattle.obu_data.specs.ShapeView.{LastsAFrame}
 use Rattle.iamf_admission.specs.declared.admission.AdmitError.{AdmitError}

@@ -1,14 +1,8 @@
 -- The numbers that two, three and four bytes spell, in both orders.
-use Rattle.std.proofs.Common.{◌≡◌, ℕ, ◌+◌, ◌*◌, ◌^◌, ◌<◌, true, false, List, [], ◌∷◌, ◌++◌, length, get_or, reverse, refl, ap, ◌∙◌, arith, length-append}
-use Rattle.std.proofs.lemmas.Nat.{pow-add}
-use Rattle.spec_bits.specs.Bits.{Bits, number_of, bits_of, all_bits}
+use Rattle.std.proofs.Common.{◌≡◌, ℕ, ◌+◌, ◌*◌, ◌^◌, ◌<◌, List, [], ◌∷◌, length, get_or, reverse, refl, ap, ◌∙◌, arith}
+use Rattle.spec_bits.specs.Bits.{number_of, bits_of, all_bits}
 use Rattle.spec_bits.proofs.BitsLaws.{number_of-bits_of, length-all_bits}
-
-number_of-append : (a b : Bits) → number_of (a ++ b) ≡ number_of a * 2 ^ length b + number_of b
-unfolding number_of
-number_of-append [] b = omega arith
-number_of-append (true ∷ a) b = let p = pow-add 2 (length a) (length b) in rw (length-append a b, p) (omega (arith, number_of-append a b))
-number_of-append (false ∷ a) b = omega (arith, number_of-append a b)
+use Rattle.spec_bits.proofs.JoinLaws.{number_of-append}
 
 -- the first byte is the most significant
 number_of-cons : (x : ℕ) (xs : List ℕ) → x < 256 → number_of (all_bits (x ∷ xs)) ≡ x * 2 ^ (8 * length xs) + number_of (all_bits xs)

@@ -1,31 +1,30 @@
 -- A parameter block is an id and the content that its definition's shape says.
-use Rattle.std.proofs.Common.{◌≡◌, ℕ, List, [], ◌++◌, Some, None, Result, Ok, Err, refl, ap, subst, ◌∙◌, length, take}
+use Rattle.std.proofs.Common.{◌≡◌, ℕ, List, [], ◌++◌, Some, None, Result, Ok, Err, refl, ap, ◌∙◌, length, take}
 use Rattle.std.specs.Prelude.{IfOk}
 use Rattle.std.proofs.Math.Seq.{take-length}
 use Rattle.spec_bits.specs.Form.{Leb128}
 use Rattle.spec_bits.specs.Bits.{Bits, all_bits}
-use Rattle.spec_bits.specs.Cursor.{Cursor, field_at, bits_left}
+use Rattle.spec_bits.specs.Cursor.{Cursor, field_at}
 use Rattle.spec_syntax.specs.Syntax.{End}
 use Rattle.spec_syntax.specs.Reading.{read, chain, start_of}
-use Rattle.spec_syntax.specs.Payload.{FieldValue, Payload, IsValid, canon}
-use Rattle.spec_syntax.specs.Laws.{IsSyntaxOf}
-use Rattle.spec_syntax.proofs.Fields.{syntax_of}
+use Rattle.spec_syntax.specs.Payload.{Payload, IsValid, canon}
 use Rattle.spec_syntax.proofs.Reading.{read_bind}
 use Rattle.spec_blocks.specs.declared.fault.BlockFault.{BlockFault}
 use Rattle.spec_blocks.specs.declared.fault.BlockFault.TheVariants as fault
 use Rattle.spec_blocks.specs.Shape.{Shape, Definition, shape_of}
 use Rattle.spec_blocks.specs.ParameterBlock.{ContentFields, Opaque, BlockFields, content_of, parameter_block}
 use Rattle.spec_blocks.specs.BlockFieldLists.{block_fields}
-use Rattle.spec_blocks.proofs.BlockFields.{block_is, block_plain}
+use Rattle.spec_blocks.proofs.BlockFields.{block_syntax}
 use Rattle.obu_data.specs.declared.error.BlockError.{BlockError}
 use Rattle.obu_data.specs.declared.error.BlockError.TheVariants.{Fault, Memory}
 use Rattle.obu_data.specs.declared.parameter_block.Content.{Content}
 use Rattle.obu_data.specs.declared.parameter_block.Content.TheVariants as content
 use Rattle.obu_data.specs.declared.parameter_block.ParameterBlock.{ParameterBlock}
-use Rattle.obu_data.specs.Puts.{AllFit}
-use Rattle.obu_data.proofs.Puts.{stands_fit}
+use Rattle.spec_syntax.specs.Fitting.{AllFit}
+use Rattle.spec_syntax.proofs.Fitting.{stands_fit}
+use Rattle.spec_syntax.proofs.PayloadLaws.{payload_read}
 use Rattle.obu_data.specs.Outcome.{ReadsPart}
-use Rattle.obu_data.specs.BlockView.{view_content, view_block, opaque_bytes, IsKnown}
+use Rattle.obu_data.specs.BlockView.{view_content, view_block, bytes_after, opaque_bytes, IsKnown}
 use Rattle.obu_data.specs.BlockReading.{ReadsBlock, SpellsBlock}
 
 pub at_start : (c : Cursor) (p : List ℕ) → c.bytes ≡ take (length p) p → c.place ≡ 0 → c ≡ start_of p
@@ -58,29 +57,21 @@ pub block_fails : (definitions : List Definition) (c next new : Cursor) (id : �
 block_fails definitions c next new id shape (Fault f) e found e1 = block_part definitions c next id (Err f) e (rw found e1)
 block_fails definitions c next new id shape (Memory a) e found e1 = tt
 
-pub block_law : (definitions : List Definition) → IsSyntaxOf (λ f. fault.Field f) (parameter_block definitions) block_fields
-block_law definitions = syntax_of _ (parameter_block definitions) block_fields (block_is definitions) (block_plain definitions)
-
 pub block_spells : (definitions : List Definition) (payload : List ℕ) (r : Result ParameterBlock BlockError) → ReadsBlock r (read (λ f. fault.Field f) (parameter_block definitions) (start_of payload)) → SpellsBlock definitions payload r
-block_spells definitions payload (Ok block) h =
-    let law = block_law definitions in
-    let p = law.reading.reads payload (view_block block) h.0 h.1 in
-    let fields : p.0 ≡ block_fields (view_block block) = law.stands p.0 (view_block block) p.1.spelling p.1.stands in
-    subst (λ (tail : Bits). Payload (parameter_block definitions) (block_fields (view_block block)) (view_block block) tail (all_bits payload)) h.2
-    (subst (λ (xs : List FieldValue). Payload (parameter_block definitions) xs (view_block block) (bits_left h.0) (all_bits payload)) fields p.1)
-block_spells definitions payload (Err (Fault f)) h = (block_law definitions).reading.fails payload f h
+block_spells definitions payload (Ok block) h = payload_read (block_syntax definitions) payload (view_block block) h.0 (all_bits (bytes_after block)) h.1 h.2
+block_spells definitions payload (Err (Fault f)) h = (block_syntax definitions).reading.fails payload f h
 block_spells definitions payload (Err (Memory a)) h = tt
 
 pub block_valid : (definitions : List Definition) (payload : List ℕ) (r : Result ParameterBlock BlockError) → ReadsBlock r (read (λ f. fault.Field f) (parameter_block definitions) (start_of payload))
     → IfOk r (λ block. IsValid (parameter_block definitions) block_fields (view_block block))
-block_valid definitions payload (Ok block) h = let p = block_spells definitions payload (Ok block) h in (block_law definitions).valid _ (view_block block) p.spelling p.stands
+block_valid definitions payload (Ok block) h = let p = block_spells definitions payload (Ok block) h in (block_syntax definitions).valid _ (view_block block) p.spelling p.stands
 block_valid definitions payload (Err e) h = tt
 
 -- ---- what is written
 
 pub block_back : (definitions : List Definition) (block : BlockFields) (tail bits : Bits) → IsValid (parameter_block definitions) block_fields block → bits ≡ canon (block_fields block) ++ tail
     → Payload (parameter_block definitions) (block_fields block) block tail bits
-block_back definitions block tail bits valid e = rw e ((block_law definitions).back block tail valid)
+block_back definitions block tail bits valid e = rw e ((block_syntax definitions).back block tail valid)
 
 pub block_fits : (definitions : List Definition) (block : BlockFields) → IsValid (parameter_block definitions) block_fields block → AllFit (block_fields block)
 block_fits definitions block valid = stands_fit (parameter_block definitions) [] (block_fields block) block (canon (block_fields block)) valid

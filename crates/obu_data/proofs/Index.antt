@@ -4,13 +4,12 @@ use Rattle.std.specs.Prelude.{◌==◌}
 use Rattle.std.specs.Ordering.{nat_cmp}
 use Rattle.std.specs.BTreeMap.{BTreeMap, get, is_at, Updates}
 use Rattle.std.proofs.lemmas.Bool.{eqb-true, eqb-false}
-use Rattle.std.proofs.lemmas.List.{length-map, get_or-map}
+use Rattle.std.proofs.lemmas.List.{length-map, get_or-map, map_push}
 use Rattle.std.proofs.lemmas.List.Elements.{All-get_or, All-push}
 use Rattle.spec_blocks.specs.Shape.{Definition, shape_of}
 use Rattle.obu_data.specs.declared.definitions.Kept.{Kept}
 use Rattle.obu_data.specs.ShapeView.{view_shape, MayDefine}
 use Rattle.obu_data.specs.DefinitionView.{view_kept, place_of, IsIndexed}
-use Rattle.obu_data.proofs.Lists.{map_push}
 
 pub no_place : (ds : List Definition) (id : ℕ) → place_of ds id ≡ None → shape_of ds id ≡ None
 no_place [] id e = refl

@@ -4,4 +4,3 @@ pub mod Index
 pub mod Timed
 pub mod Blocks
 pub mod Frames
-pub mod Puts

@@ -17,8 +17,10 @@ use Rattle.spec_syntax.specs.Payload.{canon}
 use Rattle.spec_syntax.specs.Repetition.{joined}
 use Rattle.spec_blocks.specs.BlockFieldLists.{timed_gain_fields}
 use Rattle.obu_data.specs.BlockView.{view_gain_part, pairs}
-use Rattle.obu_data.specs.Puts.{AllFit}
-use Rattle.obu_data.proofs.Puts.{canon_append, nothing_more, fit_front, fit_rest}
+use Rattle.spec_syntax.specs.Fitting.{AllFit}
+use Rattle.spec_syntax.proofs.Writing.{canon_append}
+use Rattle.std.proofs.lemmas.List.{append-nil}
+use Rattle.spec_syntax.proofs.Fitting.{fit_front, fit_rest}
 
 pub timed_read : (duration count : ℕ) (c next last : Cursor) (ds : List ℕ) (gs : List GainFields) → field_at Leb128 c ≡ Ok (count, next) → (count ≡ 0 → ⊥)
     → read (λ f. fault.Field f) (each count timed_gain_in []) next ≡ Ok (zip ds gs, last) → length gs ≡ length ds → sum ds ≡ duration
@@ -51,7 +53,7 @@ pair_put xs ys d part ds ps now new all e e1 more so_far =
     ap (λ (b : Bits). b ++ canon others) more ∙ append_assoc now (canon one) (canon others) ∙ ap (λ (b : Bits). now ++ b) (sym (canon_append one others)) ∙ h
 
 pub pairs_done : (xs : List ℕ) (ys : List GainPart) (now all : Bits) → (xs ≡ []) ⊎ (ys ≡ []) → now ++ canon (joined timed_gain_fields (pairs xs ys)) ≡ all → now ≡ all
-pairs_done [] ys now all e so_far = sym (nothing_more now) ∙ so_far
-pairs_done (a ∷ xs) [] now all e so_far = sym (nothing_more now) ∙ so_far
+pairs_done [] ys now all e so_far = sym (append-nil now) ∙ so_far
+pairs_done (a ∷ xs) [] now all e so_far = sym (append-nil now) ∙ so_far
 pairs_done (a ∷ xs) (b ∷ ys) now all (inl e) so_far = absurd cc
 pairs_done (a ∷ xs) (b ∷ ys) now all (inr e) so_far = absurd cc

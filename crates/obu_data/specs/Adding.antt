@@ -1,8 +1,8 @@
 -- What looking up and adding a definition answer.
-use Rattle.std.specs.Prelude.{◌≡◌, ℕ, List, [], ◌∷◌, ◌++◌, Option, Some, None, Result, Ok, Err}
+use Rattle.std.specs.Prelude.{◌≡◌, ℕ, List, Option, Some, None, Result, Ok, Err}
 use Rattle.std.specs.Borrow.{Bor}
 use Rattle.spec_blocks.specs.Shape as fields
-use Rattle.spec_blocks.specs.Shape.{Definition, shape_of}
+use Rattle.spec_blocks.specs.Shape.{Definition, shape_of, with_definition}
 use Rattle.obu_data.specs.declared.error.DefinitionError.{DefinitionError}
 use Rattle.obu_data.specs.declared.error.DefinitionError.TheVariants.{Clash, Memory}
 use Rattle.obu_data.specs.declared.shape.Shape.{Shape}
@@ -17,12 +17,7 @@ Finds (Some shape) found = found ≡ Some (view_shape shape.now)
 abbrev pub Clashes : List Definition → ℕ → fields.Shape → Type 0
 Clashes definitions id shape = (other : fields.Shape) × (shape_of definitions id ≡ Some other) × (other ≡ shape → ⊥)
 
--- the definitions with one more, which goes last if its id is new
-abbrev pub with_definition : List Definition → ℕ → fields.Shape → Option fields.Shape → List Definition
-with_definition definitions id shape None = definitions ++ record { parameter_id = id; shape = shape } ∷ []
-with_definition definitions id shape (Some other) = definitions
-
 abbrev pub Adds : List Definition → ℕ → fields.Shape → Result (Unit {0}) DefinitionError → List Definition → Type 0
-Adds old id shape (Ok done) new = (Clashes old id shape → ⊥) × (new ≡ with_definition old id shape (shape_of old id))
+Adds old id shape (Ok done) new = (Clashes old id shape → ⊥) × (new ≡ with_definition old (record { parameter_id = id; shape = shape }))
 Adds old id shape (Err (Clash other)) new = (other ≡ id) × Clashes old id shape × (new ≡ old)
 Adds old id shape (Err (Memory e)) new = (Clashes old id shape → ⊥) × (new ≡ old)

@@ -5,4 +5,3 @@ pub mod Adding
 pub mod BlockView
 pub mod BlockReading
 pub mod FrameReading
-pub mod Puts

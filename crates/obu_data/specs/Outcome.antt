@@ -10,8 +10,3 @@ abbrev pub ReadsPart : {V W : Type 0} → (V → W) → Result V BlockError → 
 ReadsPart view (Ok v) new read = (read ≡ Ok (view v, new)) × IsOnByte new
 ReadsPart view (Err (Fault f)) new read = read ≡ Err f
 ReadsPart view (Err (Memory e)) new read = Unit {0}
-
--- the same where no memory is taken
-abbrev pub GivesPart : {V W : Type 0} → (V → W) → Result V BlockFault → Cursor → Result (W × Cursor) BlockFault → Type 0
-GivesPart view (Ok v) new read = (read ≡ Ok (view v, new)) × IsOnByte new
-GivesPart view (Err f) new read = read ≡ Err f

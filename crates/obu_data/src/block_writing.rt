@@ -6,7 +6,8 @@ ghost use Rattle.spec_syntax.specs.Repetition.{joined};
 ghost use Rattle.spec_blocks.specs.ParameterBlock.{parameter_block};
 ghost use Rattle.spec_blocks.specs.BlockFieldLists.{gain_fields, timed_gain_fields, subblock_fields, gains_fields, recon_fields, content_fields, block_fields};
 ghost use Rattle.obu_descriptors.specs.TimingView.{view_fixed};
-ghost use Rattle.obu_data.specs.Puts.{AllFit, Puts};
+ghost use Rattle.spec_syntax.specs.Fitting.{AllFit};
+ghost use Rattle.obu_descriptors.specs.Writing.{Puts};
 ghost use Rattle.obu_data.specs.BlockView.{view_gain_part, pairs, view_recon_part, view_content, view_block, opaque_bytes, bytes_after};
 
 use crate::definitions::Definitions;
@@ -16,7 +17,7 @@ use obu_descriptors::Fixed;
 use std::alloc::{AllocError, Global};
 
 /// Puts one subblock of a mix gain.
-#[tactic(auto, using(crate::proofs::Puts::append_law, crate::proofs::Puts::nothing_more))]
+#[tactic(auto, using(spec_bits::proofs::JoinLaws::joins))]
 fn put_gain_part(out: &mut Out, part: &GainPart) -> Result<(), AllocError>
     requires used { out.old.used ≡ 0 }
     requires fits { AllFit (gain_fields (view_gain_part part.now)) }
@@ -61,7 +62,7 @@ fn put_gain_parts(out: &mut Out, parts: &[GainPart]) -> Result<(), AllocError>
 }
 
 /// Puts a subblock with its duration.
-#[tactic(auto, using(crate::proofs::Puts::append_law))]
+#[tactic(auto, using(spec_bits::proofs::JoinLaws::joins))]
 fn put_timed_part(out: &mut Out, duration: u32, part: &GainPart) -> Result<(), AllocError>
     requires used { out.old.used ≡ 0 }
     requires fits { AllFit (timed_gain_fields (duration, view_gain_part part.now)) }
@@ -85,7 +86,7 @@ fn put_timed_parts(out: &mut Out, durations: &[u32], parts: &[GainPart]) -> Resu
 }
 
 /// Puts the subblocks of a block with its own timing.
-#[tactic(auto, using(crate::proofs::Puts::append_law, crate::proofs::Puts::joined_map, crate::proofs::Puts::length_map))]
+#[tactic(auto, using(spec_bits::proofs::JoinLaws::joins, spec_syntax::proofs::Writing::views))]
 fn put_subblocks(out: &mut Out, fixed: &Fixed, parts: &[GainPart]) -> Result<(), AllocError>
     requires used { out.old.used ≡ 0 }
     requires fits { AllFit (subblock_fields (view_fixed fixed.now) (map view_gain_part parts.now)) }
@@ -100,7 +101,7 @@ fn put_subblocks(out: &mut Out, fixed: &Fixed, parts: &[GainPart]) -> Result<(),
 }
 
 /// Puts the timing of a block that has its own, and its subblocks.
-#[tactic(auto, using(crate::proofs::Puts::append_law))]
+#[tactic(auto, using(spec_bits::proofs::JoinLaws::joins))]
 fn put_own_gains(out: &mut Out, fixed: &Fixed, parts: &[GainPart]) -> Result<(), AllocError>
     requires used { out.old.used ≡ 0 }
     requires fits { AllFit (gains_fields (Some (view_fixed fixed.now)) (map view_gain_part parts.now)) }
@@ -113,7 +114,7 @@ fn put_own_gains(out: &mut Out, fixed: &Fixed, parts: &[GainPart]) -> Result<(),
 }
 
 /// Puts the gains of a layer.
-#[tactic(auto, using(crate::proofs::Puts::append_law, crate::proofs::Puts::nothing_more))]
+#[tactic(auto, using(spec_bits::proofs::JoinLaws::joins))]
 fn put_recon_part(out: &mut Out, part: &ReconPart) -> Result<(), AllocError>
     requires used { out.old.used ≡ 0 }
     requires fits { AllFit (recon_fields (view_recon_part part.now)) }
@@ -137,7 +138,7 @@ fn put_recon_parts(out: &mut Out, parts: &[ReconPart]) -> Result<(), AllocError>
 }
 
 /// Puts the fields of a content.
-#[tactic(auto, using(crate::proofs::Puts::append_law, crate::proofs::Puts::nothing_more, crate::proofs::Puts::joined_map))]
+#[tactic(auto, using(spec_bits::proofs::JoinLaws::joins, spec_syntax::proofs::Writing::views))]
 fn put_content(out: &mut Out, content: &Content<'_>) -> Result<(), AllocError>
     requires used { out.old.used ≡ 0 }
     requires fits { AllFit (content_fields (view_content content.now)) }
@@ -163,7 +164,7 @@ fn put_content(out: &mut Out, content: &Content<'_>) -> Result<(), AllocError>
 }
 
 /// Puts the fields of a block.
-#[tactic(auto, using(crate::proofs::Puts::append_law))]
+#[tactic(auto, using(spec_bits::proofs::JoinLaws::joins))]
 fn put_block(out: &mut Out, block: &ParameterBlock<'_>) -> Result<(), AllocError>
     requires used { out.old.used ≡ 0 }
     requires fits { AllFit (block_fields (view_block block.now)) }
@@ -185,7 +186,7 @@ fn opaque_of<'a>(content: &Content<'a>) -> &'a [u8]
 }
 
 /// Puts the bytes after the fields.
-#[tactic(auto, using(crate::proofs::Puts::append_law, crate::proofs::Puts::all_bits_append), unfolding(spec_bits::specs::Form::canonical))]
+#[tactic(auto, using(spec_bits::proofs::JoinLaws::joins), unfolding(spec_bits::specs::Form::canonical))]
 fn put_rest(out: &mut Out, block: &ParameterBlock<'_>) -> Result<(), AllocError>
     requires { out.old.used ≡ 0 }
     ensures bits { OnOk result (out.new.bits ≡ out.old.bits ++ all_bits (bytes_after block.now)) }
@@ -200,7 +201,7 @@ fn put_rest(out: &mut Out, block: &ParameterBlock<'_>) -> Result<(), AllocError>
 /// and opaque bytes and the tail as they are. Among the same definitions it reads as the same block.
 ///
 /// An error comes only where memory runs out.
-#[tactic(auto, using(crate::proofs::Puts::append_law, crate::proofs::Blocks::block_back, crate::proofs::Blocks::block_fits))]
+#[tactic(auto, using(spec_bits::proofs::JoinLaws::joins, crate::proofs::Blocks::block_back, crate::proofs::Blocks::block_fits))]
 pub fn write_block(
     alloc: Global,
     definitions: &Definitions,

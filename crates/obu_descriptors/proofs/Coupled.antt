@@ -1,18 +1,12 @@
 -- The channels of substreams, of which the coupled ones come first.
 use Rattle.std.proofs.Common.{◌≡◌, ℕ, zero, suc, ◌+◌, ◌-◌, ◌<◌, ◌≤◌, List, [], ◌∷◌, ◌++◌, Some, length, get_or, drop, drop-cons, add-one, refl, sym, ap, ◌∙◌, arith, length-append}
-use Rattle.std.specs.Prelude.{sum, sum_by, replicate, slice_get}
+use Rattle.std.specs.Prelude.{replicate, slice_get}
 use Rattle.std.proofs.lemmas.List.{append-nil, length-replicate}
 use Rattle.spec_descriptors.specs.Layers.{LayerFields}
-use Rattle.spec_descriptors.specs.AudioElement.{coupled_first, layer_channels}
-use Rattle.spec_descriptors.proofs.ElementCounts.{Each, IsCoupled, both_counts, sum-coupled_first, sum-layer_channels}
+use Rattle.spec_descriptors.specs.AudioElement.{coupled_first}
+use Rattle.spec_descriptors.proofs.ElementCounts.{Each, IsCoupled}
 use Rattle.obu_descriptors.specs.declared.layer.Layer.{Layer}
 use Rattle.obu_descriptors.specs.Channels.{AreCoupled}
-
-pub layers_sum : (list : List LayerFields) → Each IsCoupled list → sum (layer_channels list) ≡ sum_by both_counts list
-layers_sum list all = sum-layer_channels list all
-
-pub coupled_sum : (substreams coupled : ℕ) → coupled ≤ substreams → sum (coupled_first substreams coupled) ≡ substreams + coupled
-coupled_sum substreams coupled le = sum-coupled_first substreams coupled le
 
 pub each_coupled : (list : List LayerFields) → Each IsCoupled list → AreCoupled list
 each_coupled [] all = tt

@@ -2,40 +2,29 @@
 use Rattle.std.proofs.Common.{◌≡◌, ℕ, List, ◌++◌, Result, Ok, Err, subst, sym}
 use Rattle.std.specs.Prelude.{IfOk}
 use Rattle.spec_bits.specs.Bits.{Bits, all_bits}
-use Rattle.spec_bits.specs.Cursor.{bits_left}
 use Rattle.spec_syntax.specs.Reading.{read, start_of}
-use Rattle.spec_syntax.specs.Payload.{FieldValue, Payload, IsValid, canon}
-use Rattle.spec_syntax.proofs.Fields.{syntax_of}
-use Rattle.spec_syntax.specs.Laws.{IsSyntaxOf}
+use Rattle.spec_syntax.specs.Payload.{Payload, IsValid, canon}
+use Rattle.spec_syntax.proofs.PayloadLaws.{payload_read}
 use Rattle.spec_descriptors.specs.declared.fault.DescriptorFault.TheVariants as fault
 use Rattle.spec_descriptors.specs.AudioElement.{audio_element}
 use Rattle.spec_descriptors.specs.ElementFields.{audio_element_fields}
-use Rattle.spec_descriptors.proofs.ElementIs.{audio_element_is, audio_element_plain}
+use Rattle.spec_descriptors.proofs.ElementIs.{audio_element_syntax}
 use Rattle.obu_descriptors.specs.declared.error.DescriptorError.{DescriptorError}
 use Rattle.obu_descriptors.specs.declared.error.DescriptorError.TheVariants.{Fault, Memory}
 use Rattle.obu_descriptors.specs.declared.audio_element.AudioElement.{AudioElement}
 use Rattle.obu_descriptors.specs.ElementView.{view_element}
 use Rattle.obu_descriptors.specs.ElementReading.{ReadsElement, AnswersElement, ReadsAs}
 
-pub element_law : (frame_length : ℕ) → IsSyntaxOf (λ f. fault.Field f) (audio_element frame_length) audio_element_fields
-element_law frame_length = syntax_of _ (audio_element frame_length) audio_element_fields (audio_element_is frame_length) (audio_element_plain frame_length)
-
 pub answers_element : (frame_length : ℕ) (r : Result AudioElement DescriptorError) (p : List ℕ)
     → ReadsElement r (read (λ f. fault.Field f) (audio_element frame_length) (start_of p)) → AnswersElement frame_length r p
-answers_element frame_length (Ok element) p h =
-    let law = element_law frame_length in
-    let s = audio_element frame_length in
-    let w = view_element element in
-    let t = law.reading.reads p w h.0 h.1 in
-    let is = law.stands t.0 w t.1.spelling t.1.stands in
-    subst (λ (z : Bits). Payload s (audio_element_fields w) w z (all_bits p)) h.2 (subst (λ (xs : List FieldValue). Payload s xs w (bits_left h.0) (all_bits p)) is t.1)
-answers_element frame_length (Err (Fault f)) p h = (element_law frame_length).reading.fails p f h
+answers_element frame_length (Ok element) p h = payload_read (audio_element_syntax frame_length) p (view_element element) h.0 (all_bits element.tail.now) h.1 h.2
+answers_element frame_length (Err (Fault f)) p h = (audio_element_syntax frame_length).reading.fails p f h
 answers_element frame_length (Err (Memory e)) p h = tt
 
 -- what was read is valid
 
 pub read_valid : (frame_length : ℕ) (element : AudioElement) (p : List ℕ) → AnswersElement frame_length (Ok element) p → IsValid (audio_element frame_length) audio_element_fields (view_element element)
-read_valid frame_length element p h = (element_law frame_length).valid (audio_element_fields (view_element element)) (view_element element) h.spelling h.stands
+read_valid frame_length element p h = (audio_element_syntax frame_length).valid (audio_element_fields (view_element element)) (view_element element) h.spelling h.stands
 
 pub element_valid : (frame_length : ℕ) (r : Result AudioElement DescriptorError) (p : List ℕ)
     → AnswersElement frame_length r p → IfOk r (λ element. IsValid (audio_element frame_length) audio_element_fields (view_element element))
@@ -46,7 +35,7 @@ element_valid frame_length (Err e) p h = tt
 pub reads_back : (frame_length : ℕ) (element : AudioElement) (p : List ℕ) → all_bits p ≡ canon (audio_element_fields (view_element element)) ++ all_bits element.tail.now
     → IsValid (audio_element frame_length) audio_element_fields (view_element element) → ReadsAs frame_length element p
 reads_back frame_length element p spelled valid =
-    let law = element_law frame_length in
+    let law = audio_element_syntax frame_length in
     let w = view_element element in
     let there : Payload (audio_element frame_length) (audio_element_fields w) w (all_bits element.tail.now) (all_bits p) =
     subst (λ (bits : Bits). Payload (audio_element frame_length) (audio_element_fields w) w (all_bits element.tail.now) bits) (sym spelled) (law.back w (all_bits element.tail.now) valid) in

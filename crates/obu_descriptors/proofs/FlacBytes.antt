@@ -1,12 +1,12 @@
 -- The metadata blocks of a FLAC config: reading them, and the bytes between the place before and the place after.
-use Rattle.std.proofs.Common.{◌≡◌, ℕ, zero, suc, ◌+◌, ◌-◌, ◌*◌, ◌/◌, ◌≤◌, true, false, List, [], ◌∷◌, ◌++◌, length, take, drop, Ok, refl, sym, ap, ◌∙◌, arith, length-append, length-take}
+use Rattle.std.proofs.Common.{◌≡◌, ℕ, zero, suc, ◌+◌, ◌-◌, ◌*◌, ◌/◌, ◌≤◌, true, false, List, [], ◌++◌, length, take, drop, Ok, refl, sym, ap, ◌∙◌, arith, length-append, length-take}
 use Rattle.std.specs.Prelude.{slice_range, ◌==◌}
-use Rattle.std.proofs.lemmas.List.{take_at, drop_at, drop-drop, drop_all, take-append-drop}
+use Rattle.std.proofs.lemmas.List.{take_at, take-append-drop}
 use Rattle.spec_bits.specs.declared.FieldFault.{FieldFault}
-use Rattle.spec_bits.specs.Bits.{Bits, bits_of, all_bits}
+use Rattle.spec_bits.specs.Bits.{Bits, all_bits}
 use Rattle.spec_bits.specs.Form.{Blocks}
 use Rattle.spec_bits.specs.Cursor.{Cursor, IsOnByte, bits_before, bits_left}
-use Rattle.spec_bits.proofs.BitsLaws.{length-bits_of, length-all_bits, all_bits-append}
+use Rattle.spec_bits.proofs.BitsLaws.{length-all_bits, all_bits-append, drop-all_bits}
 use Rattle.spec_syntax.specs.Syntax.{Syntax, End, Choice, field, ◌>>=◌}
 use Rattle.spec_syntax.specs.Reading.{read}
 use Rattle.spec_syntax.specs.Payload.{canon}
@@ -56,14 +56,6 @@ flac_more wrap c d e i info others h more k later =
     }
 
 -- ---- the bytes
-
-drop-all_bits : (k : ℕ) (xs : List ℕ) → drop (8 * k) (all_bits xs) ≡ all_bits (drop k xs)
-unfolding all_bits
-drop-all_bits zero xs = refl
-drop-all_bits (suc k) [] = drop_all (8 * suc k) [] (omega arith)
-drop-all_bits (suc k) (x ∷ xs) =
-    let e : 8 * suc k ≡ 8 + 8 * k = omega arith in
-    rw (e, ← drop-drop (8 * k) 8 (bits_of 8 x ++ all_bits xs), drop_at (bits_of 8 x) (all_bits xs) 8 (length-bits_of 8 x)) (drop-all_bits k xs)
 
 -- the first k bytes have the first 8 * k bits
 take-all_bits : (k : ℕ) (xs : List ℕ) (front rest : Bits) → all_bits xs ≡ front ++ rest → length front ≡ 8 * k → all_bits (take k xs) ≡ front

@@ -9,6 +9,5 @@ pub mod Lists
 pub mod Mapping
 pub mod Counts
 pub mod ElementAnswers
-pub mod Fitting
 pub mod Spelling
 pub mod Coupled

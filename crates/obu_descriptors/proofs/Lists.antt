@@ -1,14 +1,10 @@
 -- Lists whose values are seen as others.
-use Rattle.std.proofs.Common.{◌≡◌, suc, Bool, ◌||◌, List, [], ◌∷◌, ◌++◌, length, map, refl, ap}
+use Rattle.std.proofs.Common.{◌≡◌, Bool, ◌||◌, List, [], ◌∷◌, ◌++◌, map, refl, ap}
 use Rattle.std.specs.List.{list_any}
 use Rattle.std.specs.Prelude.{Some}
 use Rattle.spec_descriptors.specs.Layers.{last_layout}
 use Rattle.obu_descriptors.specs.declared.layer.Layer.{Layer}
 use Rattle.obu_descriptors.specs.LayerView.{view_layer}
-
-pub map_push : {A B : Type 0} (f : A → B) (xs : List A) (x : A) → map f (xs ++ x ∷ []) ≡ map f xs ++ f x ∷ []
-map_push f [] x = refl
-map_push {A} {B} f (y ∷ xs) x = ap (λ (zs : List B). f y ∷ zs) (map_push f xs x)
 
 pub list_any_map : {A B : Type 0} (f : A → B) (p : B → Bool) (xs : List A) → list_any p (map f xs) ≡ list_any (λ x. p (f x)) xs
 list_any_map f p [] = refl
@@ -18,7 +14,3 @@ pub last_layout_push : (layers : List Layer) (layer : Layer) → last_layout (ma
 last_layout_push [] layer = refl
 last_layout_push (first ∷ []) layer = refl
 last_layout_push (first ∷ next ∷ layers) layer = last_layout_push (next ∷ layers) layer
-
-pub length_map : {A B : Type 0} (f : A → B) (xs : List A) → length (map f xs) ≡ length xs
-length_map f [] = refl
-length_map f (x ∷ xs) = ap suc (length_map f xs)

@@ -2,9 +2,8 @@
 use Rattle.std.proofs.Common.{◌≡◌, ℕ, ◌+◌, Bool, List, [], ◌++◌, Result, Ok, Err, sym, ap, subst, ◌∙◌}
 use Rattle.std.specs.Prelude.{MatchResult}
 use Rattle.std.proofs.lemmas.List.{append-nil}
-use Rattle.spec_bits.specs.Bits.{Bits, all_bits}
-use Rattle.spec_bits.specs.Cursor.{bytes_of}
-use Rattle.spec_bits.proofs.ByteForms.{bytes_of-all_bits}
+use Rattle.spec_bits.specs.Bits.{all_bits}
+use Rattle.spec_bits.proofs.ByteForms.{same_bytes}
 use Rattle.spec_syntax.specs.Payload.{Payload, IsValid, canon}
 use Rattle.spec_descriptors.specs.declared.fault.DescriptorFault.{DescriptorFault}
 use Rattle.spec_descriptors.specs.declared.fault.DescriptorFault.TheVariants as fault
@@ -21,12 +20,8 @@ use Rattle.obu_descriptors.specs.Payloads.{AnswersPayload, AnswersEntry}
 use Rattle.obu_descriptors.specs.HeaderView.{view_header}
 use Rattle.obu_descriptors.specs.CodecView.{StandsForFlac, StandsForCoding, StandsForCodec}
 use Rattle.obu_descriptors.specs.SameRecord.{SameBytes, SameHeader, SameCoding, SameCodec}
-use Rattle.obu_descriptors.proofs.Answering.{written_only, written_reads}
+use Rattle.spec_syntax.proofs.PayloadLaws.{written_only, written_reads}
 use Rattle.obu_descriptors.proofs.Written.{config_is_written}
-
--- bytes with the same bits are the same
-same_bytes : (xs ys : List ℕ) → all_bits xs ≡ all_bits ys → SameBytes xs ys
-same_bytes xs ys e are are' = sym (bytes_of-all_bits xs are) ∙ ap (λ (b : Bits). bytes_of b) e ∙ bytes_of-all_bits ys are'
 
 -- ---- sequence headers
 
@@ -38,7 +33,7 @@ header_back h payload (Ok k) valid parts a =
     record {
       primary = ap (λ (v : SequenceHeaderFields). v.primary_profile) only.entry;
       additional = ap (λ (v : SequenceHeaderFields). v.additional_profile) only.entry;
-      tail = same_bytes k.tail.now h.tail.now only.rest;
+      tail = λ are are'. same_bytes k.tail.now h.tail.now are are' only.rest;
     }
 header_back h payload (Err f) valid parts a = written_reads sequence_header_syntax (view_header h) (all_bits h.tail.now) (all_bits payload) f valid parts a
 
@@ -50,7 +45,7 @@ flac_parts info info' others others' e = (cc, cc)
 same_flac : (blocks blocks' : List ℕ) (depth depth' rate rate' : ℕ) (c : CodingFields) → StandsForFlac blocks depth rate c → StandsForFlac blocks' depth' rate' c → SameBytes blocks blocks' × (depth ≡ depth') × (rate ≡ rate')
 same_flac blocks blocks' depth depth' rate rate' c h k =
     let both = flac_parts h.info k.info h.others k.others (sym h.is ∙ k.is) in (
-      same_bytes blocks blocks' (h.blocks_are ∙ ap (λ (i : StreamInfoFields). canon (flac_fields i h.others)) both.0 ∙ ap (λ (o : List ℕ). canon (flac_fields k.info o)) both.1 ∙ sym k.blocks_are),
+      λ are are'. same_bytes blocks blocks' are are' (h.blocks_are ∙ ap (λ (i : StreamInfoFields). canon (flac_fields i h.others)) both.0 ∙ ap (λ (o : List ℕ). canon (flac_fields k.info o)) both.1 ∙ sym k.blocks_are),
       h.depth_is ∙ ap (λ (i : StreamInfoFields). i.depth_less_one + 1) both.0 ∙ sym k.depth_is,
       h.rate_is ∙ ap (λ (i : StreamInfoFields). i.sample_rate) both.0 ∙ sym k.rate_is,
     )
@@ -77,7 +72,7 @@ codec_back r c payload (Ok q) stands valid parts a =
       id = stands_too.id ∙ sym stands.id;
       frame_length = stands_too.frame_length ∙ sym stands.frame_length;
       coding_is = same_coding q.coding r.coding c.coding stands_too.coding_is stands.coding_is;
-      tail = same_bytes q.tail.now r.tail.now only.rest;
+      tail = λ are are'. same_bytes q.tail.now r.tail.now are are' only.rest;
     }
 codec_back r c payload (Err f) stands valid parts a = written_reads codec_config_syntax c (all_bits r.tail.now) (all_bits payload) f valid parts a
 

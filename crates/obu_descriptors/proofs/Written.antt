@@ -1,7 +1,5 @@
 -- What is written of a codec config is canonical.
-use Rattle.std.proofs.Common.{◌≡◌, ℕ, List, refl, sym, subst}
-use Rattle.spec_bits.specs.Bits.{all_bits}
-use Rattle.spec_bits.specs.Form.{Bytes, canonical}
+use Rattle.std.proofs.Common.{◌≡◌, refl, sym, subst}
 use Rattle.spec_syntax.specs.Payload.{canon}
 use Rattle.spec_descriptors.specs.CodecConfig.{CodingFields, CodecConfigFields}
 use Rattle.spec_descriptors.specs.DescriptorFields.{coding_fields, codec_id_of, codec_config_fields}
@@ -10,10 +8,6 @@ use Rattle.obu_descriptors.specs.declared.codec_config.Coding.TheVariants as cod
 use Rattle.obu_descriptors.specs.declared.codec_config.CodecConfig.{CodecConfig}
 use Rattle.obu_descriptors.specs.CodecView.{StandsForCoding, StandsForCodec}
 use Rattle.obu_descriptors.specs.CodecWriting.{codec_id_written, coding_written, config_written}
-
-pub bytes_put : (n : ℕ) (bytes : List ℕ) → canonical (Bytes n) bytes ≡ all_bits bytes
-unfolding canonical
-bytes_put n bytes = refl
 
 abbrev IsWritten : Coding → CodingFields → Type 0
 IsWritten r c = (codec_id_written r ≡ codec_id_of c) × (coding_written r ≡ canon (coding_fields c))

@@ -12,6 +12,6 @@ ReadsPart view (Err (Fault f)) new read = read ≡ Err f
 ReadsPart view (Err (Memory e)) new read = Unit {0}
 
 -- the same where no memory is taken
-abbrev pub TakesPart : {V W : Type 0} → (V → W) → Result V DescriptorFault → Cursor → Result (W × Cursor) DescriptorFault → Type 0
+abbrev pub TakesPart : {V W F : Type 0} → (V → W) → Result V F → Cursor → Result (W × Cursor) F → Type 0
 TakesPart view (Ok v) new read = (read ≡ Ok (view v, new)) × IsOnByte new
 TakesPart view (Err f) new read = read ≡ Err f

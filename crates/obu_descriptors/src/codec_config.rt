@@ -103,7 +103,7 @@ fn codec_id(coding: &Coding<'_>) -> u32
     }
 }
 
-#[tactic(auto, using(spec_syntax::proofs::Puts::append_law, crate::proofs::Written::bytes_put))]
+#[tactic(auto, using(spec_bits::proofs::JoinLaws::joins, crate::proofs::Spelling::bytes_spelled))]
 fn put_coding(out: &mut Out, coding: &Coding<'_>) -> Result<(), AllocError>
     requires { out.old.used ≡ 0 }
     ensures bits { OnOk result (out.new.bits ≡ out.old.bits ++ coding_written coding.now) }
@@ -180,7 +180,7 @@ impl<'a> CodecConfig<'a> {
         self.written(alloc)
     }
 
-    #[tactic(auto, using(spec_syntax::proofs::Puts::append_law, crate::proofs::Written::bytes_put))]
+    #[tactic(auto, using(spec_bits::proofs::JoinLaws::joins, crate::proofs::Spelling::bytes_spelled))]
     fn written(&self, alloc: Global) -> Result<Vec<u8>, AllocError>
         ensures { IfOk result (λ v. all_bits v.items ≡ config_written self.now ++ all_bits self.now.tail.now) }
     {

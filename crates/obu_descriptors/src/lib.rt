@@ -30,4 +30,4 @@ pub use reading_back::{
 };
 pub use sequence_header::SequenceHeader;
 pub use spec_descriptors::DescriptorFault;
-pub use timing::{Fixed, Timing};
+pub use timing::{Fixed, Timing, put_timing};

@@ -4,13 +4,13 @@ ghost use Rattle.std.specs.Prelude.{◌≡◌, ◌<◌, ◌^◌, ◌∷◌, ◌+
 ghost use Rattle.spec_bits.specs.Form.{Leb128};
 ghost use Rattle.spec_syntax.specs.Payload.{a_field, canon};
 ghost use Rattle.spec_syntax.specs.Repetition.{joined};
-ghost use Rattle.spec_descriptors.specs.ElementFields.{leb_fields};
+ghost use Rattle.spec_descriptors.specs.TimingFields.{leb_fields};
 
 use iamf_bits::Out;
 use std::alloc::AllocError;
 
 /// Puts each number.
-#[tactic(auto, using(crate::proofs::Spelling::one_after, crate::proofs::Spelling::none_after))]
+#[tactic(auto, using(spec_bits::proofs::JoinLaws::joins))]
 fn put_each(out: &mut Out, numbers: &[u32]) -> Result<(), AllocError>
     requires { out.old.used ≡ 0 }
     ensures bits { OnOk result (out.new.bits ≡ out.old.bits ++ canon (joined leb_fields numbers.now)) }
@@ -23,7 +23,7 @@ fn put_each(out: &mut Out, numbers: &[u32]) -> Result<(), AllocError>
 }
 
 /// Puts how many numbers there are, and then each.
-#[tactic(auto, using(crate::proofs::Spelling::one_after))]
+#[tactic(auto, using(spec_bits::proofs::JoinLaws::joins))]
 pub(crate) fn put_numbers(out: &mut Out, numbers: &[u32]) -> Result<(), AllocError>
     requires used { out.old.used ≡ 0 }
     requires few { length numbers.now < 2 ^ 32 }

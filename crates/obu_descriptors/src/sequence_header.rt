@@ -57,7 +57,7 @@ impl<'a> SequenceHeader<'a> {
 
     /// Writes the canonical payload of a valid record: the fields in their shortest spelling, and then the tail.
     /// An error only where memory is wanting.
-    #[tactic(auto, using(spec_syntax::proofs::Puts::append_law, crate::proofs::Written::bytes_put))]
+    #[tactic(auto, using(spec_bits::proofs::JoinLaws::joins, crate::proofs::Spelling::bytes_spelled))]
     pub fn write(&self, alloc: Global) -> Result<Vec<u8>, AllocError>
         requires { IsValid sequence_header sequence_header_fields (view_header self.now) }
         ensures { IfOk result (λ v. all_bits v.items ≡ canon (sequence_header_fields (view_header self.now)) ++ all_bits self.now.tail.now) }

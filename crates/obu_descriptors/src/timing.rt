@@ -5,7 +5,7 @@ mod writing;
 
 pub(crate) use reading::read_timing;
 use smallvec::SmallVec;
-pub(crate) use writing::put_timing;
+pub use writing::put_timing;
 
 /// How long the blocks of a parameter last, where they all last the same. Durations are counted in ticks of the
 /// parameter's rate.

@@ -1,24 +1,14 @@
 -- Bytes that are put one after the other.
-use Rattle.std.proofs.Common.{◌≡◌, ℕ, ◌+◌, ◌*◌, ◌≤◌, List, [], ◌∷◌, ◌++◌, length, append_assoc, length-append, refl, sym, ap, ◌∙◌, arith}
-use Rattle.std.proofs.lemmas.List.{append-nil}
-use Rattle.spec_bits.specs.Bits.{Bits, bits_of, all_bits}
+use Rattle.std.proofs.Common.{◌≡◌, ℕ, ◌+◌, ◌≤◌, List, [], ◌∷◌, ◌++◌, length, length-append, refl, ap, arith}
+use Rattle.spec_bits.specs.Bits.{bits_of, all_bits}
 use Rattle.spec_bits.specs.Leb.{leb_bytes}
 use Rattle.spec_obu.specs.Header.{Head}
 use Rattle.spec_obu.specs.Canonical.{canonical_body, canonical_header}
-use Rattle.spec_bits.proofs.BitsLaws.{all_bits-append, length-all_bits}
-
-pub append_law : (a b c : Bits) → (a ++ b) ++ c ≡ a ++ (b ++ c)
-append_law a b c = append_assoc a b c
-
-pub nothing_more : (a : Bits) → a ++ [] ≡ a
-nothing_more a = append-nil a
+use Rattle.spec_bits.proofs.BitsLaws.{length-all_bits}
 
 pub no_bytes : all_bits [] ≡ []
 unfolding all_bits
 no_bytes = refl
-
-pub joined_bytes : (xs ys : List ℕ) → all_bits (xs ++ ys) ≡ all_bits xs ++ all_bits ys
-joined_bytes xs ys = all_bits-append xs ys
 
 pub first_byte_bits : (x : ℕ) (xs : List ℕ) → all_bits (x ∷ xs) ≡ bits_of 8 x ++ all_bits xs
 unfolding all_bits

@@ -20,7 +20,7 @@ fn first_byte(head: &ObuHead<'_>) -> u8
         + if head.extension.is_some() { 1 } else { 0 }
 }
 
-#[tactic(auto, using(crate::proofs::Spelling::append_law, crate::proofs::Spelling::nothing_more, crate::proofs::Spelling::no_bytes, crate::proofs::Spelling::joined_bytes), unfolding(spec_bits::specs::Form::canonical))]
+#[tactic(auto, using(spec_bits::proofs::JoinLaws::joins, crate::proofs::Spelling::no_bytes), unfolding(spec_bits::specs::Form::canonical))]
 fn put_trim(out: &mut Out, trim: Option<Trim>) -> Result<(), AllocError>
     requires { out.old.used ≡ 0 }
     ensures bits { OnOk result (out.new.bits ≡ out.old.bits ++ all_bits (canonical_trim (trim_of trim))) }
@@ -33,7 +33,7 @@ fn put_trim(out: &mut Out, trim: Option<Trim>) -> Result<(), AllocError>
     Ok(())
 }
 
-#[tactic(auto, using(crate::proofs::Spelling::append_law, crate::proofs::Spelling::nothing_more, crate::proofs::Spelling::no_bytes, crate::proofs::Spelling::joined_bytes), unfolding(spec_bits::specs::Form::canonical))]
+#[tactic(auto, using(spec_bits::proofs::JoinLaws::joins, crate::proofs::Spelling::no_bytes), unfolding(spec_bits::specs::Form::canonical))]
 fn put_extension(out: &mut Out, extension: Option<&[u8]>) -> Result<(), AllocError>
     requires used { out.old.used ≡ 0 }
     requires short { length (canonical_extension (option_copied extension)) ≤ 2 ^ 21 }
@@ -48,7 +48,7 @@ fn put_extension(out: &mut Out, extension: Option<&[u8]>) -> Result<(), AllocErr
 }
 
 // What `obu_size` counts.
-#[tactic(auto, using(crate::proofs::Spelling::append_law, crate::proofs::Spelling::nothing_more, crate::proofs::Spelling::no_bytes, crate::proofs::Spelling::joined_bytes, crate::proofs::Spelling::same_length), unfolding(spec_bits::specs::Form::canonical))]
+#[tactic(auto, using(spec_bits::proofs::JoinLaws::joins, crate::proofs::Spelling::no_bytes, crate::proofs::Spelling::same_length), unfolding(spec_bits::specs::Form::canonical))]
 fn body_of(alloc: Global, head: &ObuHead<'_>, payload: &[u8]) -> Result<Vec<u8>, AllocError>
     requires { length (canonical_body (head_of head.now) payload.now) ≤ 2 ^ 21 }
     ensures bits { IfOk result (λ v. all_bits v.items ≡ all_bits (canonical_body (head_of head.now) payload.now)) }
@@ -62,7 +62,7 @@ fn body_of(alloc: Global, head: &ObuHead<'_>, payload: &[u8]) -> Result<Vec<u8>,
 }
 
 // The first byte, the size and the body.
-#[tactic(auto, using(crate::proofs::Spelling::append_law, crate::proofs::Spelling::nothing_more, crate::proofs::Spelling::no_bytes, crate::proofs::Spelling::joined_bytes, crate::proofs::Spelling::first_byte_bits, crate::proofs::Spelling::same_length), unfolding(spec_bits::specs::Form::canonical, spec_obu::specs::Canonical::canonical_header))]
+#[tactic(auto, using(spec_bits::proofs::JoinLaws::joins, crate::proofs::Spelling::no_bytes, crate::proofs::Spelling::first_byte_bits, crate::proofs::Spelling::same_length), unfolding(spec_bits::specs::Form::canonical, spec_obu::specs::Canonical::canonical_header))]
 fn whole_of(alloc: Global, head: &ObuHead<'_>, payload: &[u8]) -> Result<Vec<u8>, AllocError>
     requires kind { head.now.kind < 32 }
     requires short { length (canonical_body (head_of head.now) payload.now) ≤ 2 ^ 21 }

@@ -1,5 +1,4 @@
 pub mod Outcome
-pub mod Puts
 pub mod MixGainView
 pub mod LoudnessView
 pub mod MixElementView

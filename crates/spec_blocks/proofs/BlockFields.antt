@@ -8,9 +8,11 @@ use Rattle.spec_bits.specs.Form.{Leb128}
 use Rattle.spec_syntax.specs.Syntax.{each}
 use Rattle.spec_syntax.specs.Payload.{FieldValue, a_field, IsPlain}
 use Rattle.spec_syntax.specs.Repetition.{joined}
-use Rattle.spec_syntax.proofs.Fields.{Has, field_step, end_step, choice_step, check_step, bind_step, each_is}
+use Rattle.spec_syntax.specs.Laws.{IsSyntaxOf}
+use Rattle.spec_syntax.proofs.Fields.{Has, field_step, end_step, choice_step, check_step, bind_step, each_is, syntax_of}
 use Rattle.spec_syntax.proofs.Plain.{plain_bind, plain_each}
 use Rattle.spec_descriptors.specs.ParameterDefinition.{FixedFields}
+use Rattle.spec_blocks.specs.declared.fault.BlockFault.TheVariants as fault
 use Rattle.spec_blocks.specs.Shape.{Shape, MixGain, Demixing, ReconGain, Definition, shape_of}
 use Rattle.spec_blocks.specs.ParameterBlock.{GainFields, ReconFields, ContentFields, Gain, BlockFields, gain_part, gain_in, subblocks_in, subblocks_of, timed_gain, timed_gain_in, durations_of, gains_of, timed_gains, constant_gains, own_gains, defined_gains, gains, demixing, ones_below, recon_part, recon_in, recon_gains, content_of, parameter_block}
 use Rattle.spec_blocks.specs.BlockFieldLists.{gain_fields, timed_gain_fields, subblock_fields, recon_fields, content_fields, block_fields, frame_fields}
@@ -145,7 +147,7 @@ content_is (Some (MixGain rate (Some fixed))) xs c h = defined_gains_is fixed xs
 content_is (Some (Demixing rate fixed)) xs c h = demixing_is xs c h
 content_is (Some (ReconGain rate fixed layers flags)) xs c h = recon_gains_is layers flags xs c h
 
-pub block_is : (definitions : List Definition) (xs : List FieldValue) (b : BlockFields) → Has (parameter_block definitions) xs b → xs ≡ block_fields b
+block_is : (definitions : List Definition) (xs : List FieldValue) (b : BlockFields) → Has (parameter_block definitions) xs b → xs ≡ block_fields b
 unfolding parameter_block
 block_is definitions xs b h =
     field_step h λ id ys e f p h1.
@@ -199,13 +201,13 @@ content_plain (Some (MixGain rate (Some fixed))) = defined_gains_plain fixed
 content_plain (Some (Demixing rate fixed)) = demixing_plain
 content_plain (Some (ReconGain rate fixed layers flags)) = recon_gains_plain layers flags
 
-pub block_plain : (definitions : List Definition) → IsPlain (parameter_block definitions)
+block_plain : (definitions : List Definition) → IsPlain (parameter_block definitions)
 unfolding parameter_block
 block_plain definitions = λ id. plain_bind (content_of (shape_of definitions id)) _ (content_plain (shape_of definitions id)) (λ content. tt)
 
 -- ---- audio frames
 
-pub frame_is : (obu_type : ℕ) (xs : List FieldValue) (substream : ℕ) → Has (audio_frame obu_type) xs substream → xs ≡ frame_fields obu_type substream
+frame_is : (obu_type : ℕ) (xs : List FieldValue) (substream : ℕ) → Has (audio_frame obu_type) xs substream → xs ≡ frame_fields obu_type substream
 unfolding audio_frame
 frame_is obu_type xs substream h =
     choice_step h
@@ -217,6 +219,14 @@ frame_is obu_type xs substream h =
     end_step h1 λ e is.
     rw (other, e) refl)
 
-pub frame_plain : (obu_type : ℕ) → IsPlain (audio_frame obu_type)
+frame_plain : (obu_type : ℕ) → IsPlain (audio_frame obu_type)
 unfolding audio_frame
 frame_plain obu_type = (λ id. tt, tt)
+
+-- ---- the laws of both
+
+pub block_syntax : (definitions : List Definition) → IsSyntaxOf (λ e. fault.Field e) (parameter_block definitions) block_fields
+block_syntax definitions = syntax_of _ (parameter_block definitions) block_fields (block_is definitions) (block_plain definitions)
+
+pub frame_syntax : (obu_type : ℕ) → IsSyntaxOf (λ e. e) (audio_frame obu_type) (frame_fields obu_type)
+frame_syntax obu_type = syntax_of _ (audio_frame obu_type) (frame_fields obu_type) (frame_is obu_type) (frame_plain obu_type)

@@ -1,9 +1,10 @@
 -- IAMF 1.0.0, "Parameter Block OBU Syntax and Semantics", "Mix Gain Parameter Data", "Demixing Info Parameter Data" and
 -- "Recon Gain Info Parameter Data".
-use Rattle.std.specs.Prelude.{ℕ, ℤ, ◌+◌, ◌-◌, ◌/◌, ◌%◌, ◌^◌, Bool, not, List, [], ◌∷◌, map, sum, length, Option, Some, None, nat_le, nat_lt, ◌==◌, if◌then◌else◌, zero, suc}
+use Rattle.std.specs.Prelude.{ℕ, ℤ, ◌+◌, ◌-◌, ◌/◌, ◌%◌, ◌^◌, not, List, [], ◌∷◌, map, sum, length, Option, Some, None, nat_le, nat_lt, ◌==◌, if◌then◌else◌, zero, suc}
 use Rattle.spec_bits.specs.Form.{Number, Signed, Leb128, Bytes, Reserved}
 use Rattle.spec_syntax.specs.Syntax.{Syntax, End, Choice, field, refuse, check, each, ◌>>=◌, ◌>>◌}
 use Rattle.spec_descriptors.specs.ParameterDefinition.{FixedFields}
+use Rattle.spec_descriptors.specs.MixGain.{is_zero}
 use Rattle.spec_blocks.specs.declared.fault.BlockFault.{BlockFault}
 use Rattle.spec_blocks.specs.declared.fault.BlockFault.TheVariants as fault
 use Rattle.spec_blocks.specs.Shape.{Shape, MixGain, Demixing, ReconGain, Definition, shape_of}
@@ -53,9 +54,6 @@ subblocks_in duration constant_subblock_duration = (duration + (constant_subbloc
 -- how many subblocks a definition's timing has
 abbrev pub subblocks_of : FixedFields → ℕ
 subblocks_of fixed = if fixed.constant_subblock_duration == 0 then length fixed.durations else subblocks_in fixed.duration fixed.constant_subblock_duration
-
-abbrev pub is_zero : ℕ → Bool
-is_zero n = n == 0
 
 -- a subblock with its own duration
 unfoldable pub timed_gain : Syntax BlockFault (ℕ × GainFields)

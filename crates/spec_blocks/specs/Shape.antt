@@ -1,5 +1,5 @@
 -- Which definition a parameter block is read by (IAMF 1.0.0, "Parameter Definition Syntax and Semantics").
-use Rattle.std.specs.Prelude.{ℕ, List, [], ◌∷◌, Option, Some, None, if◌then◌else◌, ◌==◌}
+use Rattle.std.specs.Prelude.{ℕ, List, [], ◌∷◌, ◌++◌, Option, Some, None, if◌then◌else◌, ◌==◌, is_some}
 use Rattle.spec_descriptors.specs.ParameterDefinition.{FixedFields}
 
 -- What two definitions of one id have to agree on: the kind, the rate, and the timing where the definition has it;
@@ -17,3 +17,7 @@ pub record Definition : Type 0 where
 abbrev pub shape_of : List Definition → ℕ → Option Shape
 shape_of [] parameter_id = None
 shape_of (d ∷ definitions) parameter_id = if d.parameter_id == parameter_id then Some d.shape else shape_of definitions parameter_id
+
+-- the definitions with one more, which goes last unless its id is there
+abbrev pub with_definition : List Definition → Definition → List Definition
+with_definition known d = if is_some (shape_of known d.parameter_id) then known else known ++ d ∷ []

@@ -1,7 +1,7 @@
 -- A codec config stands for one list of fields.
 use Rattle.std.proofs.Common.{◌≡◌, ℕ, ℤ, pos, negsuc, Bool, true, false, List, [], refl, sym, subst, ◌∙◌, ap, arith}
 use Rattle.std.specs.Prelude.{◌==◌, nat_lt, if◌then◌else◌}
-use Rattle.std.proofs.lemmas.Bool.{eqb-true, eqb-false, ltb-false}
+use Rattle.std.proofs.lemmas.Bool.{eqb-true, eqb-false, ltb-false, not-false}
 use Rattle.std.proofs.lemmas.List.{append-nil}
 use Rattle.spec_syntax.specs.Payload.{FieldValue, IsPlain}
 use Rattle.spec_syntax.specs.Laws.{IsSyntaxOf}
@@ -10,7 +10,8 @@ use Rattle.spec_syntax.proofs.Fields.{Has, field_step, end_step, choice_step, bi
 use Rattle.spec_syntax.proofs.Plain.{plain_bind}
 use Rattle.spec_descriptors.specs.CodecConfig.{StreamInfoFields, CodingFields, CodecConfigFields, is_not_zero, lpcm_config, stream_info, flac_config, codec_config}
 use Rattle.spec_descriptors.specs.DescriptorFields.{lpcm_fields, stream_info_fields, flac_fields, coding_fields, codec_id_of, codec_config_fields}
-use Rattle.spec_descriptors.proofs.Tests.{not_false, both_true, other_true}
+use Rattle.spec_bits.proofs.Outcomes.{both_true}
+use Rattle.spec_descriptors.proofs.Tests.{other_true}
 
 -- ---- LPCM
 
@@ -53,7 +54,7 @@ stream_info_is xs r h =
     field_step h11 λ low y11 e11 f11 p11 h12.
     field_step h12 λ digest y12 e12 f12 p12 h13.
     end_step h13 λ e13 is.
-    let both = both_true (block_type == 0) (block_length == 34) (not_false _ p2.0) in
+    let both = both_true (block_type == 0) (block_length == 34) (not-false _ p2.0) in
     let type_is : block_type ≡ 0 = eqb-true block_type 0 both.0 in
     let length_is : block_length ≡ 34 = eqb-true block_length 34 both.1 in
     subst (λ (y : StreamInfoFields). xs ≡ stream_info_fields y) is (rw (e, e1, e2, e3, e4, e5, e6, e7, e8, e9, e10, e11, e12, e13, type_is, length_is) refl)
@@ -80,7 +81,7 @@ flac_is xs r h =
 -- ---- the whole
 
 is_zero : (z : ℤ) → is_not_zero z ≡ false → z ≡ pos 0
-is_zero (pos n) e = ap pos (eqb-true n 0 (not_false _ e))
+is_zero (pos n) e = ap pos (eqb-true n 0 (not-false _ e))
 is_zero (negsuc n) e = absurd cc
 
 codec_config_is : (xs : List FieldValue) (r : CodecConfigFields) → Has codec_config xs r → xs ≡ codec_config_fields r
@@ -102,7 +103,7 @@ codec_config_is xs r h =
     bind_step lpcm_config _ h5 λ front ys4 coding e4 first h6.
     end_step h6 λ e5 is.
     let part = lpcm_is front coding first in
-    let codec_is : codec ≡ codec_id_of coding = eqb-true codec 0x6970636d (other_true _ _ (not_false _ p1.1.1.0) none) ∙ sym part.1 in
+    let codec_is : codec ≡ codec_id_of coding = eqb-true codec 0x6970636d (other_true _ _ (not-false _ p1.1.1.0) none) ∙ sym part.1 in
     subst (λ (y : CodecConfigFields). xs ≡ codec_config_fields y) is (rw (e, e1, e2, e3, e4, e5, append-nil, part.0, roll_is, codec_is) refl))
 
 -- ---- no field asks for the bits before

@@ -1,7 +1,7 @@
 -- The counts of an audio element fit each other.
 use Rattle.std.proofs.Common.{◌≡◌, ℕ, zero, suc, ◌+◌, ◌-◌, ◌<◌, ◌≤◌, false, List, [], ◌∷◌, ◌++◌, Option, Some, None, length, refl, sym, subst, ◌∙◌, arith, length-append}
 use Rattle.std.specs.Prelude.{sum, sum_by, replicate}
-use Rattle.std.proofs.lemmas.Bool.{eqb-true, ltb-false}
+use Rattle.std.proofs.lemmas.Bool.{eqb-true, ltb-false, not-false}
 use Rattle.std.proofs.lemmas.List.{length-replicate}
 use Rattle.std.proofs.lemmas.List.Sums.{sum_by-append}
 use Rattle.std.proofs.lemmas.List.Folds.{sum_by-replicate}
@@ -17,7 +17,7 @@ use Rattle.spec_descriptors.specs.Ambisonics.{AmbisonicsFields, Mono, Projection
 use Rattle.spec_descriptors.specs.Ambisonics as ambisonics
 use Rattle.spec_descriptors.specs.AudioElement.{ConfigFields, Scalable, Ambisonics, Other, AudioElementFields, element_front, parameter_in, scalable_of, ambisonics_of, other_config, config_of, audio_element, coupled_first, layer_channels, substream_channels_of}
 use Rattle.spec_descriptors.specs.ElementFields.{audio_element_fields}
-use Rattle.spec_descriptors.proofs.Tests.{not_false, both_true}
+use Rattle.spec_bits.proofs.Outcomes.{both_true}
 
 -- ---- repetitions
 
@@ -55,7 +55,7 @@ layer_of_counts before now xs r h =
     field_step h2 λ reserved ys2 e2 f2 p2 h3.
     field_step h3 λ substreams ys3 e3 f3 p3 h4.
     field_step h4 λ coupled ys4 e4 f4 p4 h5.
-    let both = both_true _ _ (not_false _ p4.0) in
+    let both = both_true _ _ (not-false _ p4.0) in
     let counts : coupled ≤ substreams = omega (arith, eqb-true substreams (length (pairs_of before now) + length (singles_of before now)) both.0, eqb-true coupled (length (pairs_of before now)) both.1) in
     choice_step h5
     (λ there h6.
@@ -126,14 +126,14 @@ config_counts type count xs r h =
     check_step h2 λ passed h3.
     end_step h3 λ e1 is.
     let t = scalable_counts front list first in
-    subst (λ (y : ConfigFields). CountsHold count y) is (t.0, t.1, eqb-true _ _ (not_false _ passed)))
+    subst (λ (y : ConfigFields). CountsHold count y) is (t.0, t.1, eqb-true _ _ (not-false _ passed)))
     (λ not_zero h1.
     choice_step h1
     (λ one h2.
     bind_step ambisonics_config _ h2 λ front ys config e first h3.
     check_step h3 λ passed h4.
     end_step h4 λ e1 is.
-    subst (λ (y : ConfigFields). CountsHold count y) is (ambisonics_counts front config first, eqb-true _ _ (not_false _ passed)))
+    subst (λ (y : ConfigFields). CountsHold count y) is (ambisonics_counts front config first, eqb-true _ _ (not-false _ passed)))
     (λ other h2.
     field_step h2 λ size ys e f p h3.
     field_step h3 λ bytes ys1 e1 f1 p1 h4.

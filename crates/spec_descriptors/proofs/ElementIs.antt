@@ -4,12 +4,15 @@ use Rattle.std.proofs.lemmas.Bool.{eqb-true}
 use Rattle.std.proofs.lemmas.List.{append-nil}
 use Rattle.spec_syntax.specs.Syntax.{each}
 use Rattle.spec_syntax.specs.Payload.{FieldValue, IsPlain}
-use Rattle.spec_syntax.proofs.Fields.{Has, field_step, end_step, choice_step, check_step, bind_step, each_is}
+use Rattle.spec_syntax.specs.Laws.{IsSyntaxOf}
+use Rattle.spec_syntax.proofs.Fields.{Has, field_step, end_step, choice_step, check_step, bind_step, each_is, syntax_of}
 use Rattle.spec_syntax.proofs.Plain.{plain_bind, plain_each}
+use Rattle.spec_descriptors.specs.declared.fault.DescriptorFault.TheVariants as fault
 use Rattle.spec_descriptors.specs.Layers.{scalable_config}
 use Rattle.spec_descriptors.specs.Ambisonics.{ambisonics_config}
 use Rattle.spec_descriptors.specs.AudioElement.{ConfigFields, FrontFields, AudioElementFields, type_of, substream_id_in, element_front, parameter_in, scalable_of, ambisonics_of, other_config, config_of, audio_element}
-use Rattle.spec_descriptors.specs.ElementFields.{leb_fields, parameter_fields, config_fields, front_fields, audio_element_fields}
+use Rattle.spec_descriptors.specs.TimingFields.{leb_fields}
+use Rattle.spec_descriptors.specs.ElementFields.{parameter_fields, config_fields, front_fields, audio_element_fields}
 use Rattle.spec_descriptors.proofs.ParameterIs.{parameter_is, parameter_plain}
 use Rattle.spec_descriptors.proofs.LayersIs.{scalable_is, scalable_plain}
 use Rattle.spec_descriptors.proofs.AmbisonicsIs.{ambisonics_is, ambisonics_plain}
@@ -59,7 +62,7 @@ config_is type count xs r h =
     end_step h4 λ e2 is.
     subst (λ (y : ConfigFields). IsConfig type xs y) is (refl, rw (e, e1, e2, ← f1.0) refl)))
 
-pub audio_element_is : (frame_length : ℕ) (xs : List FieldValue) (r : AudioElementFields) → Has (audio_element frame_length) xs r → xs ≡ audio_element_fields r
+audio_element_is : (frame_length : ℕ) (xs : List FieldValue) (r : AudioElementFields) → Has (audio_element frame_length) xs r → xs ≡ audio_element_fields r
 unfolding audio_element
 audio_element_is frame_length xs r h =
     bind_step element_front _ h λ front_xs ys front e first h1.
@@ -84,9 +87,12 @@ config_plain type count = (
   (plain_bind ambisonics_config _ ambisonics_plain (λ config. tt), λ size bytes. tt),
 )
 
-pub audio_element_plain : (frame_length : ℕ) → IsPlain (audio_element frame_length)
+audio_element_plain : (frame_length : ℕ) → IsPlain (audio_element frame_length)
 unfolding audio_element
 audio_element_plain frame_length =
     plain_bind element_front _ front_plain λ front count.
     plain_bind (each count (parameter_in frame_length front.audio_element_type) []) _ (plain_each (parameter_in frame_length front.audio_element_type) (parameter_plain frame_length front.audio_element_type) count [])
     λ parameters. plain_bind (config_of front.audio_element_type (length front.audio_substream_ids)) _ (config_plain front.audio_element_type (length front.audio_substream_ids)) (λ config. tt)
+
+pub audio_element_syntax : (frame_length : ℕ) → IsSyntaxOf (λ e. fault.Field e) (audio_element frame_length) audio_element_fields
+audio_element_syntax frame_length = syntax_of _ (audio_element frame_length) audio_element_fields (audio_element_is frame_length) (audio_element_plain frame_length)

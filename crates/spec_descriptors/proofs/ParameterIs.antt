@@ -8,7 +8,8 @@ use Rattle.spec_syntax.proofs.Fields.{Has, field_step, end_step, choice_step, bi
 use Rattle.spec_syntax.proofs.Plain.{plain_bind, plain_each}
 use Rattle.spec_descriptors.specs.ParameterDefinition.{FixedFields, DefinitionFields, any_duration, frame_timing, frame_definition}
 use Rattle.spec_descriptors.specs.AudioElement.{ParameterFields, demixing_definition, recon_gain_definition, extension_definition, parameter_in}
-use Rattle.spec_descriptors.specs.ElementFields.{leb_fields, fixed_fields, definition_fields, parameter_fields}
+use Rattle.spec_descriptors.specs.TimingFields.{leb_fields, fixed_fields, definition_fields}
+use Rattle.spec_descriptors.specs.ElementFields.{parameter_fields}
 
 duration_is : (after : ℕ) (before : List ℕ) (xs : List FieldValue) (n : ℕ) → Has (any_duration after before) xs n → xs ≡ leb_fields n
 duration_is after before xs n h =

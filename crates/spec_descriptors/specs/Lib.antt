@@ -8,5 +8,6 @@ pub mod Ambisonics
 pub mod AudioElement
 pub mod MixGain
 pub mod MixPresentation
+pub mod TimingFields
 pub mod ElementFields
 pub mod MixFields

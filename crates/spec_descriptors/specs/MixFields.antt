@@ -1,44 +1,17 @@
 -- The fields that a mix presentation and its parts stand for, one after the other
 -- (IAMF 1.0.0, "Mix Presentation OBU Syntax and Semantics" and "Mix Gain Parameter Definition").
-use Rattle.std.specs.Prelude.{ℕ, ℤ, List, [], ◌∷◌, ◌++◌, Option, Some, None, length, ◌==◌, nat_lt, if◌then◌else◌}
+use Rattle.std.specs.Prelude.{ℕ, ℤ, List, [], ◌∷◌, ◌++◌, Option, Some, None, length, nat_lt, if◌then◌else◌}
 use Rattle.spec_bits.specs.Form.{Number, Signed, Leb128, String, Bytes, Reserved}
 use Rattle.spec_syntax.specs.Payload.{FieldValue, a_field}
 use Rattle.spec_syntax.specs.Repetition.{joined}
-use Rattle.spec_descriptors.specs.ParameterDefinition.{FixedFields, DefinitionFields}
+use Rattle.spec_descriptors.specs.TimingFields.{definition_fields}
 use Rattle.spec_descriptors.specs.MixGain.{MixGainFields}
 use Rattle.spec_descriptors.specs.MixPresentation.{MixElementFields, AnchorFields, LoudnessFields, SubMixFields, MixPresentationFields, has_bit}
 
 -- ---- mix gains
 
-abbrev pub duration_fields : ℕ → List FieldValue
-duration_fields duration = a_field Leb128 duration ∷ []
-
--- the durations of the subblocks, where they do not all last the same
-abbrev pub durations_fields : FixedFields → List FieldValue
-durations_fields f = if f.constant_subblock_duration == 0 then a_field Leb128 (length f.durations) ∷ joined duration_fields f.durations else []
-
-abbrev pub fixed_fields : FixedFields → List FieldValue
-fixed_fields f = a_field Leb128 f.duration ∷ a_field Leb128 f.constant_subblock_duration ∷ durations_fields f
-
--- `param_definition_mode`, and the timing that is there in mode 0
-abbrev pub mode_of : Option FixedFields → ℕ
-mode_of None = 1
-mode_of (Some f) = 0
-
-abbrev pub maybe_fixed_fields : Option FixedFields → List FieldValue
-maybe_fixed_fields None = []
-maybe_fixed_fields (Some f) = fixed_fields f
-
-abbrev pub gain_definition_fields : DefinitionFields → List FieldValue
-gain_definition_fields d =
-    a_field Leb128 d.parameter_id
-    ∷ a_field Leb128 d.parameter_rate
-    ∷ a_field (Number 1) (mode_of d.fixed)
-    ∷ a_field (Reserved 7) tt
-    ∷ maybe_fixed_fields d.fixed
-
 unfoldable pub mix_gain_fields : MixGainFields → List FieldValue
-mix_gain_fields g = gain_definition_fields g.definition ++ a_field (Signed 16) g.default_mix_gain ∷ []
+mix_gain_fields g = definition_fields g.definition ++ a_field (Signed 16) g.default_mix_gain ∷ []
 
 -- ---- elements
 

@@ -7,6 +7,7 @@ use Rattle.spec_bits.specs.declared.FieldFault.{FieldFault}
 use Rattle.spec_bits.specs.declared.FieldFault.TheVariants as field
 use Rattle.spec_bits.specs.Leb.{IsLeb, leb_value}
 use Rattle.spec_bits.specs.ByteReading.{leb_at, bytes_at}
+use Rattle.spec_bits.proofs.Outcomes.{ok_is, ok_both_is}
 use Rattle.spec_bits.proofs.LebLaws.{leb_read, leb_again, leb_fails, leb_fails_only}
 use Rattle.spec_obu.specs.declared.HeaderFault.{HeaderFault}
 use Rattle.spec_obu.specs.declared.HeaderFault.TheVariants.{Leb, ObuSize, Flags, HeaderSize, Cut}
@@ -17,12 +18,6 @@ use Rattle.spec_obu.specs.Laws.{HeaderFails, HeaderFailsOnly}
 use Rattle.spec_obu.proofs.FieldLaws.{fields_fail, fields_fail_only}
 
 -- ---- the size field
-
-abbrev done : ℕ × List ℕ → Result (ℕ × List ℕ) FieldFault
-done q = Ok q
-
-ok_is : (p q : ℕ × List ℕ) → done p ≡ done q → (p.0 ≡ q.0) × (p.1 ≡ q.1)
-ok_is p q e = let same : p ≡ q = cc in (ap (λ (r : ℕ × List ℕ). r.0) same, ap (λ (r : ℕ × List ℕ). r.1) same)
 
 size_reads : (after : List ℕ) (n w : ℕ) → SizeIs after n w → (leb_at after ≡ Ok (w, drop n after)) ⊎ (leb_at after ≡ Err field.Leb)
 size_reads after n w s =
@@ -65,7 +60,7 @@ pub one_size : (after rest : List ℕ) (v n m w : ℕ) → Sized after rest v n 
 one_size after rest v n m w sz s =
     elim (size_reads after m w s) [
       | inl a ↦
-          let same = ok_is (w, drop m after) (v, rest) (sym a ∙ sz.leb) in
+          let same = ok_both_is {F = FieldFault} (w, drop m after) (v, rest) (sym a ∙ sz.leb) in
           (same.0, omega (arith, ap length same.1, length-drop m after, s.there, sz.len, sz.size.there))
       | inr b ↦ let no : ⊥ = absurd_leb after v rest sz.leb b in absurd no
     ]
@@ -87,15 +82,9 @@ chosen : {X : Type 0} (b : Bool) (x y z : X) → (if b then x else y) ≡ z → 
 chosen true x y z e = inl (refl, e)
 chosen false x y z e = inr (refl, e)
 
-abbrev found : Front → Result Front HeaderFault
-found y = Ok y
-
-found_is : (p q : Front) → found p ≡ found q → p ≡ q
-found_is p q e = cc
-
 finish_ok : (len : ℕ) (r : Result (Head × List ℕ) FieldFault) (y : Front) → finish len r ≡ Ok y → (r ≡ Ok (y.0, y.1)) × (y.2 ≡ len)
 finish_ok len (Ok r) y e =
-    let same = found_is (r.0, r.1, len) y e in
+    let same = ok_is {F = HeaderFault} (r.0, r.1, len) y e in
     (ap (λ (p : Front). Ok (p.0, p.1)) same, sym (ap (λ (p : Front). p.2) same))
 finish_ok len (Err f) y e = absurd cc
 

@@ -6,6 +6,7 @@ use Rattle.std.proofs.Math.Seq.{take-append_seam, drop-append_seam}
 use Rattle.spec_bits.specs.declared.FieldFault.{FieldFault}
 use Rattle.spec_bits.specs.declared.FieldFault.TheVariants as field
 use Rattle.spec_bits.specs.ByteReading.{◌>>=◌, leb_at, bytes_at}
+use Rattle.spec_bits.proofs.Outcomes.{ok_is}
 use Rattle.spec_bits.proofs.LebLaws.{leb_read, leb_again, leb_fails, leb_fails_only}
 use Rattle.spec_obu.specs.Header.{Head, IsTrim, IsExtension, kind_of, is_redundant, is_trimmed, is_extended}
 use Rattle.spec_obu.specs.Faults.{NumberFails, AfterNumber, TrimsFail, ExtensionFails, AfterTrims, FieldsFail}
@@ -14,12 +15,6 @@ use Rattle.spec_obu.specs.Reading.{trim_at, extension_at, fields_at}
 pub bind_ok : {A B : Type 0} (r : Result A FieldFault) (f : A → Result B FieldFault) (y : B) → (r >>= f) ≡ Ok y → (x : A) × (r ≡ Ok x) × (f x ≡ Ok y)
 bind_ok (Ok x) f y e = (x, refl, e)
 bind_ok (Err d) f y e = absurd cc
-
-abbrev done : {A : Type 0} → A → Result A FieldFault
-done x = Ok x
-
-ok_is : {A : Type 0} (x y : A) → done x ≡ done y → x ≡ y
-ok_is x y e = cc
 
 -- ---- the parts
 
@@ -33,7 +28,7 @@ bytes_read n b text rest e =
     elim (cases_lt (length b) n) [
       | inl lt ↦ let h = rw (lt-ltb (length b) n lt) at e in absurd cc
       | inr le ↦
-          let same = ok_is (take n b, drop n b) (text, rest) (rw (le-ltb (length b) n le) at e) in
+          let same = ok_is {F = FieldFault} (take n b, drop n b) (text, rest) (rw (le-ltb (length b) n le) at e) in
           subst (λ (p : List ℕ × List ℕ). (length p.0 ≡ n) × (b ≡ p.0 ++ p.1)) same (omega (arith, length-take n b), sym (take-append-drop n b))
     ]
 
@@ -49,13 +44,13 @@ pub record TrimRead (b : Bool) (bytes : List ℕ) (t : Option (ℕ × ℕ)) (res
 
 pub trim_read : (b : Bool) (bytes : List ℕ) (y : Option (ℕ × ℕ) × List ℕ) → trim_at b bytes ≡ Ok y → TrimRead b bytes y.0 y.1
 unfolding trim_at
-trim_read false bytes y e = subst (λ (p : Option (ℕ × ℕ) × List ℕ). TrimRead false bytes p.0 p.1) (ok_is (None, bytes) y e) (record { text = []; is = refl; there = refl; parts = refl })
+trim_read false bytes y e = subst (λ (p : Option (ℕ × ℕ) × List ℕ). TrimRead false bytes p.0 p.1) (ok_is {F = FieldFault} (None, bytes) y e) (record { text = []; is = refl; there = refl; parts = refl })
 trim_read true bytes y e =
     let a = bind_ok (leb_at bytes) (λ end. leb_at end.1 >>= λ start. Ok (Some (end.0, start.0), start.1)) y e in
     let b = bind_ok (leb_at a.0.1) (λ start. Ok (Some (a.0.0, start.0), start.1)) y a.2 in
     let p = leb_read bytes a.0.1 a.0.0 a.1 in
     let q = leb_read a.0.1 b.0.1 b.0.0 b.1 in
-    subst (λ (p : Option (ℕ × ℕ) × List ℕ). TrimRead true bytes p.0 p.1) (ok_is (Some (a.0.0, b.0.0), b.0.1) y b.2)
+    subst (λ (p : Option (ℕ × ℕ) × List ℕ). TrimRead true bytes p.0 p.1) (ok_is {F = FieldFault} (Some (a.0.0, b.0.0), b.0.1) y b.2)
     (record { text = p.0 ++ q.0; is = (p.0, q.0, p.1, q.1, refl); there = refl; parts = regrouped bytes p.0 a.0.1 q.0 b.0.1 p.2 q.2 })
 
 pub trim_again : (t : Option (ℕ × ℕ)) (text rest : List ℕ) → IsTrim t text → trim_at (is_some t) (text ++ rest) ≡ Ok (t, rest)
@@ -73,13 +68,13 @@ pub record ExtensionRead (b : Bool) (bytes : List ℕ) (x : Option (List ℕ)) (
 
 pub extension_read : (b : Bool) (bytes : List ℕ) (y : Option (List ℕ) × List ℕ) → extension_at b bytes ≡ Ok y → ExtensionRead b bytes y.0 y.1
 unfolding extension_at
-extension_read false bytes y e = subst (λ (p : Option (List ℕ) × List ℕ). ExtensionRead false bytes p.0 p.1) (ok_is (None, bytes) y e) (record { text = []; is = refl; there = refl; parts = refl })
+extension_read false bytes y e = subst (λ (p : Option (List ℕ) × List ℕ). ExtensionRead false bytes p.0 p.1) (ok_is {F = FieldFault} (None, bytes) y e) (record { text = []; is = refl; there = refl; parts = refl })
 extension_read true bytes y e =
     let a = bind_ok (leb_at bytes) (λ size. bytes_at size.0 size.1 >>= λ text. Ok (Some text.0, text.1)) y e in
     let b = bind_ok (bytes_at a.0.0 a.0.1) (λ text. Ok (Some text.0, text.1)) y a.2 in
     let p = leb_read bytes a.0.1 a.0.0 a.1 in
     let q = bytes_read a.0.0 a.0.1 b.0.0 b.0.1 b.1 in
-    subst (λ (p : Option (List ℕ) × List ℕ). ExtensionRead true bytes p.0 p.1) (ok_is (Some b.0.0, b.0.1) y b.2)
+    subst (λ (p : Option (List ℕ) × List ℕ). ExtensionRead true bytes p.0 p.1) (ok_is {F = FieldFault} (Some b.0.0, b.0.1) y b.2)
     (record { text = p.0 ++ b.0.0; is = (p.0, rw q.0 p.1, refl); there = refl; parts = regrouped bytes p.0 a.0.1 b.0.0 b.0.1 p.2 q.1 })
 
 pub extension_again : (x : Option (List ℕ)) (text rest : List ℕ) → IsExtension x text → extension_at (is_some x) (text ++ rest) ≡ Ok (x, rest)
@@ -108,7 +103,7 @@ fields_read x bytes y e =
     let p = trim_read (is_trimmed x) bytes a.0 a.1 in
     let q = extension_read (is_extended x) a.0.1 b.0 b.1 in
     let made : Head × List ℕ = (record { kind = kind_of x; redundant = is_redundant x; trim = a.0.0; extension = b.0.0 }, b.0.1) in
-    subst (λ (r : Head × List ℕ). FieldsRead x bytes r.0 r.1) (ok_is made y b.2) (record {
+    subst (λ (r : Head × List ℕ). FieldsRead x bytes r.0 r.1) (ok_is {F = FieldFault} made y b.2) (record {
       trim = p.text;
       extension = q.text;
       trim_is = p.is;

@@ -2,7 +2,6 @@ pub mod FieldLaws
 pub mod FaultLaws
 pub mod HeaderLaws
 pub mod OneHeader
-pub mod LebShortest
 pub mod CanonicalLaws
 pub mod OneOutcome
 pub mod PlainLaws

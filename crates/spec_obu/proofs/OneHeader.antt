@@ -2,6 +2,7 @@
 use Rattle.std.proofs.Common.{◌≡◌, ℕ, ◌<◌, ◌⊎◌, inl, inr, List, [], ◌∷◌, ◌++◌, length, take, drop, Result, Ok, Err, refl, sym, ap, ◌∙◌, arith}
 use Rattle.std.proofs.lemmas.List.{take-append-drop}
 use Rattle.std.proofs.Math.Seq.{take-append_seam, drop-append_seam}
+use Rattle.spec_bits.proofs.Outcomes.{ok_is}
 use Rattle.spec_obu.specs.declared.HeaderFault.{HeaderFault}
 use Rattle.spec_obu.specs.Header.{Head, Header}
 use Rattle.spec_obu.specs.Faults.{IsFirstFault}
@@ -30,12 +31,6 @@ no_header h p front rest (x ∷ xs) f a fault begun e =
 pub not_both : NotHeaderAndFault
 not_both b f begun h fault = no_header h.head h.payload h.front h.rest b f h.is fault begun (sym h.parts)
 
-abbrev found : Front → Result Front HeaderFault
-found y = Ok y
-
-found_is : (p q : Front) → found p ≡ found q → p ≡ q
-found_is p q e = cc
-
 -- two headers at the front of the same bytes
 pub record Same (h h' : Head) (p p' front front' rest rest' : List ℕ) : Type 0 where
   pub head : h ≡ h'
@@ -45,7 +40,7 @@ pub record Same (h h' : Head) (p p' front front' rest rest' : List ℕ) : Type 0
 
 pub same_front : (h h' : Head) (p p' front front' rest rest' : List ℕ) → Header h p front → Header h' p' front' → front ++ rest ≡ front' ++ rest' → Same h h' p p' front front' rest rest'
 same_front h h' p p' front front' rest rest' a b e =
-    let one = found_is (h, p, length front) (h', p', length front') (sym (header_again h p front rest a) ∙ ap header_at e ∙ header_again h' p' front' rest' b) in
+    let one = ok_is {F = HeaderFault} (h, p, length front) (h', p', length front') (sym (header_again h p front rest a) ∙ ap header_at e ∙ header_again h' p' front' rest' b) in
     let len : length front ≡ length front' = ap (λ (y : Front). y.2) one in
     record {
       head = ap (λ (y : Front). y.0) one;

@@ -1,6 +1,7 @@
 -- OBUs follow one another in one way.
 use Rattle.std.proofs.Common.{◌≡◌, ℕ, zero, suc, ◌+◌, ◌<◌, ◌≤◌, ◌⊎◌, inl, inr, List, [], ◌∷◌, ◌++◌, length, refl, sym, ap, subst, ◌∙◌, arith, append_assoc, length-append}
 use Rattle.spec_bits.specs.Bits.{AreBytes}
+use Rattle.spec_bits.proofs.ByteForms.{AreBytes-parts}
 use Rattle.spec_obu.specs.declared.HeaderFault.{HeaderFault}
 use Rattle.spec_obu.specs.Header.{Head, Header}
 use Rattle.spec_obu.specs.Faults.{IsFirstFault}
@@ -79,16 +80,12 @@ with_obu at o rest is (inr r) =
       },
     )
 
-bytes_after : (xs ys : List ℕ) → AreBytes (xs ++ ys) → AreBytes ys
-bytes_after [] ys are = are
-bytes_after (x ∷ xs) ys are = bytes_after xs ys are.1
-
 outcome_of : (n at : ℕ) (b : List ℕ) → AreBytes b → length b ≤ n → Outcome at b
 outcome_of n at [] are few = inl ([], record { obus = []; are = tt; whole = refl; text_is = refl })
 outcome_of zero at (x ∷ xs) are few = absurd (omega arith)
 outcome_of (suc n) at (x ∷ xs) are few = elim (either (x ∷ xs) are (omega arith)) [
   | inl h ↦
-      let rest_are : AreBytes h.rest = bytes_after h.front h.rest (subst AreBytes h.parts are) in
+      let rest_are : AreBytes h.rest = (AreBytes-parts h.front h.rest (subst AreBytes h.parts are)).1 in
       let rest_few : length h.rest ≤ n = omega (arith, ap length h.parts, length-append h.front h.rest, ap length h.is.bytes, few) in
       subst (Outcome at) (sym h.parts) (with_obu at (record { head = h.head; payload = h.payload; bytes = h.front }) h.rest h.is (outcome_of n (at + length h.front) h.rest rest_are rest_few))
   | inr f ↦ inr (at, f.0, record { obus = []; rest = x ∷ xs; are = tt; whole = refl; place_is = omega arith; begun = omega arith; fault = f.1 })

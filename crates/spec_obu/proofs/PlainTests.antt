@@ -1,5 +1,5 @@
 -- What each plain test finds is the fault, and what they find in their order is the first.
-use Rattle.std.proofs.Common.{◌≡◌, ℕ, suc, ◌+◌, ◌-◌, ◌^◌, ◌<◌, ◌≤◌, ◌↔◌, inl, inr, Bool, true, false, nat_lt, nat_le, List, [], ◌∷◌, ◌++◌, length, take, drop, slice_index, Option, Some, None, Result, Ok, refl, sym, ap, subst, ◌∙◌, arith, append_assoc}
+use Rattle.std.proofs.Common.{◌≡◌, ℕ, suc, ◌+◌, ◌-◌, ◌^◌, ◌<◌, ◌≤◌, ◌↔◌, inl, inr, Bool, true, false, nat_lt, nat_le, List, [], ◌∷◌, ◌++◌, length, take, drop, slice_index, Option, Some, None, Ok, refl, sym, ap, subst, ◌∙◌, arith, append_assoc}
 use Rattle.std.specs.Prelude.{IsTrue}
 use Rattle.std.proofs.lemmas.List.{length-drop, take-append-drop, drop-drop}
 use Rattle.std.proofs.lemmas.Bool.{lt-ltb, le-leb, ltb-true, leb-true, false≢true}
@@ -7,6 +7,7 @@ use Rattle.spec_bits.specs.declared.FieldFault.{FieldFault}
 use Rattle.spec_bits.specs.Bits.{AreBytes}
 use Rattle.spec_bits.specs.Leb.{IsLeb, AllGoOn, leb_value}
 use Rattle.spec_bits.specs.ByteReading.{leb_at}
+use Rattle.spec_bits.proofs.Outcomes.{ok_is}
 use Rattle.spec_bits.proofs.LebLaws.{leb_again, leb_fails_only}
 use Rattle.spec_obu.specs.declared.HeaderFault.{HeaderFault}
 use Rattle.spec_obu.specs.declared.HeaderFault.TheVariants.{Leb, ObuSize, Flags, HeaderSize, Cut}
@@ -69,19 +70,13 @@ body_none x b all = (λ t. absurd (false≢true t), λ h. absurd (no_size b all 
 spelled : (b : List ℕ) (n v : ℕ) → IsLeb v (take n b) → leb_at b ≡ Ok (v, drop n b)
 spelled b n v is = rw take-append-drop at (leb_again (take n b) (drop n b) v is)
 
-abbrev done : {A : Type 0} → A → Result A FieldFault
-done x = Ok x
-
-ok_is : {A : Type 0} (x y : A) → done x ≡ done y → x ≡ y
-ok_is x y e = cc
-
 not_failed : (b : List ℕ) (n v : ℕ) → IsLeb v (take n b) → NumberFails b → ⊥
 not_failed b n v is f = let e = sym (spelled b n v is) ∙ leb_fails_only b f.0 f.1 in cc
 
 after_spelled : (P : ℕ → List ℕ → Type 0) (b : List ℕ) (n v : ℕ) → IsLeb v (take n b) → AfterNumber P b → P v (drop n b)
 after_spelled P b n v is a =
     let read : leb_at b ≡ Ok (a.value, a.rest) = rw a.parts (leb_again a.front a.rest a.value a.is) in
-    subst (λ (p : ℕ × List ℕ). P p.0 p.1) (ok_is (a.value, a.rest) (v, drop n b) (sym read ∙ spelled b n v is)) a.has
+    subst (λ (p : ℕ × List ℕ). P p.0 p.1) (ok_is {F = FieldFault} (a.value, a.rest) (v, drop n b) (sym read ∙ spelled b n v is)) a.has
 
 lacks : (b : List ℕ) (n v : ℕ) → IsLeb v (take n b) → ExtensionFails b → length (drop n b) < v
 lacks b n v is (inl f) = absurd (not_failed b n v is f)
@@ -115,7 +110,7 @@ trims_excluded b rest trimmed there a f =
 
 one_rest : (b rest : List ℕ) (trimmed : Bool) (a : AfterTrims trimmed (λ r. r ≡ rest) b) (c : AfterTrims trimmed ExtensionFails b) → c.rest ≡ rest
 one_rest b rest trimmed a c =
-    let same = ok_is (c.trim, c.rest) (a.trim, a.rest) (sym (trims_at trimmed ExtensionFails b c) ∙ trims_at trimmed (λ r. r ≡ rest) b a) in
+    let same = ok_is {F = FieldFault} (c.trim, c.rest) (a.trim, a.rest) (sym (trims_at trimmed ExtensionFails b c) ∙ trims_at trimmed (λ r. r ≡ rest) b a) in
     ap (λ (p : Option (ℕ × ℕ) × List ℕ). p.1) same ∙ a.has
 
 after_trims : (x : ℕ) (b rest : List ℕ) → AfterTrims (is_trimmed x) (λ r. r ≡ rest) b → FieldsFail x b → (is_extended x ≡ true) × ExtensionFails rest

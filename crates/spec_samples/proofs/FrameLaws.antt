@@ -1,11 +1,12 @@
 -- Laws of frames of linear PCM.
-use Rattle.std.proofs.Common.{◌≡◌, ℕ, ◌+◌, ◌-◌, ◌*◌, ◌/◌, ◌%◌, ◌^◌, ◌<◌, ◌≤◌, ◌⊎◌, Bool, true, false, not, ltb, IsTrue, List, length, take, drop, reverse, refl, sym, ap, subst, ◌∙◌, arith, inl, inr}
-use Rattle.std.proofs.lemmas.Bool.{cases_lt, lt-ltb, le-ltb}
+use Rattle.std.proofs.Common.{◌≡◌, ℕ, ◌+◌, ◌-◌, ◌*◌, ◌/◌, ◌%◌, ◌^◌, ◌<◌, ◌≤◌, ◌⊎◌, Bool, true, false, not, IsTrue, List, length, take, drop, reverse, refl, sym, ap, subst, ◌∙◌, arith, inl, inr}
+use Rattle.std.proofs.lemmas.Bool.{cases_lt}
 use Rattle.std.proofs.lemmas.Bool.Decides.{nat_tests}
 use Rattle.std.proofs.lemmas.List.{length-drop, length-take-le, length-reverse, reverse-reverse}
 use Rattle.std.proofs.lemmas.Nat.{mul-add-lt, row_fits, div_below, mod_below, div-add-mod', div-mul-add, same_from_place}
 use Rattle.spec_bits.specs.Bits.{number_of, all_bits, signed_of, FitsSigned}
 use Rattle.spec_bits.proofs.BitsLaws.{number_of-bound, length-all_bits}
+use Rattle.spec_bits.proofs.CanonLaws.{signed_fit}
 use Rattle.spec_samples.specs.Lpcm.{frame_bytes, is_depth, sample_place, signed_number, sample}
 use Rattle.spec_samples.specs.Laws.{IsByteOf, SamplesTile}
 
@@ -69,20 +70,14 @@ tile frame_length channels depth is = record {
 
 -- ---- a sample fits its depth
 
-signed_fits : (k n : ℕ) → n < 2 ^ k → FitsSigned k (signed_of k n)
-signed_fits k n small = elim (cases_lt (2 * n) (2 ^ k)) [
-  | inl lt ↦ let t : ltb (2 * n) (2 ^ k) ≡ true = lt-ltb _ _ lt in rw t lt
-  | inr le ↦ let t : ltb (2 * n) (2 ^ k) ≡ false = le-ltb _ _ le in rw t (omega arith)
-]
-
 number_fits : (k : ℕ) (little : Bool) (bytes : List ℕ) → 8 * length bytes ≡ k → FitsSigned k (signed_number little k bytes)
 unfolding signed_number
 number_fits k true bytes e =
     let len : length (all_bits (reverse bytes)) ≡ k = length-all_bits (reverse bytes) ∙ ap (λ (m : ℕ). 8 * m) (length-reverse bytes) ∙ e in
-    signed_fits k (number_of (all_bits (reverse bytes))) (subst (λ (m : ℕ). number_of (all_bits (reverse bytes)) < 2 ^ m) len (number_of-bound (all_bits (reverse bytes))))
+    signed_fit k (number_of (all_bits (reverse bytes))) (subst (λ (m : ℕ). number_of (all_bits (reverse bytes)) < 2 ^ m) len (number_of-bound (all_bits (reverse bytes))))
 number_fits k false bytes e =
     let len : length (all_bits bytes) ≡ k = length-all_bits bytes ∙ e in
-    signed_fits k (number_of (all_bits bytes)) (subst (λ (m : ℕ). number_of (all_bits bytes) < 2 ^ m) len (number_of-bound (all_bits bytes)))
+    signed_fit k (number_of (all_bits bytes)) (subst (λ (m : ℕ). number_of (all_bits bytes) < 2 ^ m) len (number_of-bound (all_bits bytes)))
 
 pub fit : (frame : List ℕ) (little : Bool) (depth channels n c : ℕ) → IsTrue (is_depth depth) → sample_place channels depth n c + depth / 8 ≤ length frame
     → FitsSigned depth (sample frame little depth channels n c)

@@ -2,16 +2,8 @@
 use Rattle.std.proofs.Common.{◌≡◌, ℕ, zero, suc, ◌*◌, ◌/◌, ◌%◌, ◌^◌, ◌<◌, List, [], ◌∷◌, ◌++◌, length, take, drop, refl, sym, ap, subst, ◌∙◌, arith, length-append}
 use Rattle.std.proofs.lemmas.List.{length-take, length-drop, take-append-drop}
 use Rattle.spec_bits.specs.Bits.{Bits, AreBytes, number_of, bits_of, all_bits}
-use Rattle.spec_bits.proofs.BitsLaws.{length-bits_of, length-all_bits, all_bits-append, bits_of-number_of, number_of-bits_of, number_of-bound}
+use Rattle.spec_bits.proofs.BitsLaws.{length-all_bits, all_bits-append, bits_of-number_of, number_of-bound}
 use Rattle.spec_sequence.specs.Canonical.{bytes_of, packed}
-
-pub bytes-append : (xs ys : List ℕ) → AreBytes xs → AreBytes ys → AreBytes (xs ++ ys)
-bytes-append [] ys p q = q
-bytes-append (x ∷ xs) ys p q = (p.0, bytes-append xs ys p.1 q)
-
-pub bytes-parts : (xs ys : List ℕ) → AreBytes (xs ++ ys) → AreBytes xs × AreBytes ys
-bytes-parts [] ys p = (tt, p)
-bytes-parts (x ∷ xs) ys p = let r = bytes-parts xs ys p.1 in ((p.0, r.0), r.1)
 
 pub bytes-drop : (n : ℕ) (xs : List ℕ) → AreBytes xs → AreBytes (drop n xs)
 bytes-drop zero xs p = p
@@ -55,17 +47,6 @@ append_same (x ∷ a) b (y ∷ c) d e h =
     let r = append_same a b c d (omega arith) tails in
     let same : a ≡ c = r.0 in
     (cc, r.1)
-
-pub same_bytes : (xs ys : List ℕ) → AreBytes xs → AreBytes ys → all_bits xs ≡ all_bits ys → xs ≡ ys
-unfolding all_bits
-same_bytes [] [] p q e = refl
-same_bytes [] (y ∷ ys) p q e = let l : length (all_bits []) ≡ length (all_bits (y ∷ ys)) = ap length e in absurd (omega (arith, l, length-all_bits (y ∷ ys), length-all_bits []))
-same_bytes (x ∷ xs) [] p q e = let l : length (all_bits (x ∷ xs)) ≡ length (all_bits []) = ap length e in absurd (omega (arith, l, length-all_bits (x ∷ xs), length-all_bits []))
-same_bytes (x ∷ xs) (y ∷ ys) p q e =
-    let r = append_same (bits_of 8 x) (all_bits xs) (bits_of 8 y) (all_bits ys) (length-bits_of 8 x ∙ sym (length-bits_of 8 y)) e in
-    let heads : x ≡ y = sym (number_of-bits_of 8 x p.0) ∙ ap number_of r.0 ∙ number_of-bits_of 8 y q.0 in
-    let tails : xs ≡ ys = same_bytes xs ys p.1 q.1 r.1 in
-    cc
 
 -- what is left of bytes after whole bytes is bytes
 pub rest_is : (payload : List ℕ) (front rest : Bits) → all_bits payload ≡ front ++ rest → length front % 8 ≡ 0 → rest ≡ all_bits (drop (length front / 8) payload)

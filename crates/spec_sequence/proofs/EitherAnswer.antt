@@ -12,7 +12,7 @@ use Rattle.spec_sequence.specs.Role.{role}
 use Rattle.spec_sequence.specs.Rules.{fault_after, end_fault}
 use Rattle.spec_sequence.specs.Reading.{Entry, values_of, roles, context_after, early_fault, IsAdmissible, Early, OfPayload, Late, AdmittedAfter, FailsAt, AtEnd, OfHeader, OfObu}
 use Rattle.spec_sequence.specs.Laws.{EitherReadsOrRefused}
-use Rattle.spec_sequence.proofs.BytesOfBits.{bytes-parts}
+use Rattle.spec_bits.proofs.ByteForms.{AreBytes-parts}
 use Rattle.spec_sequence.proofs.Payloads as payload
 
 -- after the past, the bytes are OBUs to the end of a sequence
@@ -71,9 +71,9 @@ settled_more past bytes piece rest e is s a (inr r) =
 payload_bytes : (h : Head) (payload front : List ℕ) → AreBytes front → Header h payload front → AreBytes payload
 payload_bytes h payload front are is =
     let all : AreBytes (first_byte h ∷ (is.size ++ (is.trim ++ (is.extension ++ payload)))) = subst AreBytes is.bytes are in
-    let after_size = bytes-parts is.size (is.trim ++ (is.extension ++ payload)) all.1 in
-    let after_trim = bytes-parts is.trim (is.extension ++ payload) after_size.1 in
-    (bytes-parts is.extension payload after_trim.1).1
+    let after_size = AreBytes-parts is.size (is.trim ++ (is.extension ++ payload)) all.1 in
+    let after_trim = AreBytes-parts is.trim (is.extension ++ payload) after_size.1 in
+    (AreBytes-parts is.extension payload after_trim.1).1
 
 abbrev Others : List Entry → List ℕ → Type 0
 Others past rest = (e : Entry) → Settled (past ++ e ∷ []) rest
@@ -105,7 +105,7 @@ settled n past [] le are = settled_end past (end_fault (roles past)) refl
 settled zero past (x ∷ xs) le are = absurd (omega arith)
 settled (suc n) past (x ∷ xs) le are = elim (header.either (x ∷ xs) are (omega arith)) [
   | inl h ↦
-      let parts = bytes-parts h.front h.rest (subst AreBytes h.parts are) in
+      let parts = AreBytes-parts h.front h.rest (subst AreBytes h.parts are) in
       settled_early past (x ∷ xs) h (early_fault past h.head h.payload) (payload_bytes h.head h.payload h.front parts.0 h.is) refl
       (λ e. settled n (past ++ e ∷ []) h.rest (shorter_rest h.head h.payload h.front h.rest (x ∷ xs) n h.is h.parts le) parts.1)
   | inr g ↦ fails_here past (x ∷ xs) (fault.Header g.0) (OfHeader g.0 g.1 (λ e. cc) refl)

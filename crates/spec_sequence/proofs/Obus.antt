@@ -3,7 +3,7 @@ use Rattle.std.proofs.Common.{◌≡◌, ℕ, ◌+◌, ◌≤◌, List, [], ◌�
 use Rattle.spec_bits.specs.Leb.{leb_bytes}
 use Rattle.spec_obu.specs.Header.{Head, Header, first_byte}
 use Rattle.spec_obu.specs.Canonical.{canonical_header}
-use Rattle.spec_obu.proofs.LebShortest.{shortest_is, shortest, shortest_mono}
+use Rattle.spec_bits.proofs.CanonLaws.{leb_canonical, leb_shortest, leb_mono}
 use Rattle.spec_obu.proofs.CanonicalLaws.{canonical_is, canonical_shortest}
 use Rattle.spec_obu.proofs.OneHeader.{same_front}
 use Rattle.spec_sequence.specs.Content.{Content, Context, PayloadOf}
@@ -61,7 +61,7 @@ shorter_header h payload new b le is =
     ) in
     let smaller : length rest ≤ length old = omega (arith, lengths.0, lengths.1, le) in
     let size = leb_bytes (length rest) in
-    let size_short : length size ≤ length is.size = omega (arith, shortest_mono (length rest) (length old) smaller, shortest (length old) is.size is.size_is) in
+    let size_short : length size ≤ length is.size = omega (arith, leb_mono (length rest) (length old) smaller, leb_shortest (length old) is.size is.size_is) in
     let whole = first_byte h ∷ (size ++ rest) in
     let short : length whole ≤ length b = omega (arith, ap length is.bytes, smaller, size_short, length-append size rest, length-append is.size old) in
     let there : Header h new whole =
@@ -70,7 +70,7 @@ shorter_header h payload new b le is =
       trim = is.trim;
       extension = is.extension;
       bytes = refl;
-      size_is = shortest_is (length rest) (omega (arith, smaller, is.size_is.below));
+      size_is = (leb_canonical (length rest) (omega (arith, smaller, is.size_is.below))).1;
       trim_is = is.trim_is;
       extension_is = is.extension_is;
       kind_is = is.kind_is;

@@ -8,7 +8,8 @@ use Rattle.spec_sequence.specs.Content.{Content, Context, Kind, kind_of, Says, S
 use Rattle.spec_sequence.specs.Canonical.{packed}
 use Rattle.spec_sequence.specs.Laws.{IsExactPayload}
 use Rattle.spec_sequence.proofs.WholeBytes.{fills_spelling}
-use Rattle.spec_sequence.proofs.BytesOfBits.{bytes-append, bytes-drop, packed_is, same_bytes, rest_is}
+use Rattle.spec_bits.proofs.ByteForms.{AreBytes-append, same_bytes}
+use Rattle.spec_sequence.proofs.BytesOfBits.{bytes-drop, packed_is, rest_is}
 use Rattle.spec_sequence.proofs.Tables.{table, says_by, by_says, says_not_by, by_says_not}
 
 -- ---- exactly one
@@ -98,7 +99,7 @@ canonical_said context obu_type k c tail payload tail_is h =
     let p = packed_is (canon fields) (omega (arith, whole)) in
     let new = packed (canon fields) ++ tail in
     let bits : all_bits new ≡ canon fields ++ all_bits tail = all_bits-append (packed (canon fields)) tail ∙ ap (λ (z : Bits). z ++ all_bits tail) p.0 in
-    let bytes : AreBytes new = bytes-append (packed (canon fields)) tail p.1 tail_is in
+    let bytes : AreBytes new = AreBytes-append (packed (canon fields)) tail p.1 tail_is in
     let spells : Payload t.syntax fields a.value (all_bits tail) (all_bits new) = record { spelling = canon fields; stands = valid; parts = bits } in
     let says : Says context obu_type k c tail new = subst (λ (d : Content). Says context obu_type k d tail new) a.is (by_says context obu_type k tail new a.value tail_is bytes spells) in
     let shorter = t.laws.exact.shortest a.spells.spelling fields a.value a.spells.stands in

@@ -19,15 +19,14 @@ use Rattle.spec_descriptors.specs.ElementFields.{audio_element_fields}
 use Rattle.spec_descriptors.specs.MixFields.{mix_presentation_fields}
 use Rattle.spec_descriptors.proofs.SequenceHeaderFields.{sequence_header_syntax}
 use Rattle.spec_descriptors.proofs.CodecConfigFields.{codec_config_syntax}
-use Rattle.spec_descriptors.proofs.ElementIs.{audio_element_is, audio_element_plain}
+use Rattle.spec_descriptors.proofs.ElementIs.{audio_element_syntax}
 use Rattle.spec_descriptors.proofs.MixSteps.{mix_presentation_syntax}
 use Rattle.spec_blocks.specs.declared.fault.BlockFault.{BlockFault}
 use Rattle.spec_blocks.specs.declared.fault.BlockFault.TheVariants as block
-use Rattle.spec_blocks.specs.Shape.{Definition}
 use Rattle.spec_blocks.specs.ParameterBlock.{BlockFields, parameter_block}
 use Rattle.spec_blocks.specs.AudioFrame.{audio_frame}
 use Rattle.spec_blocks.specs.BlockFieldLists.{block_fields, frame_fields}
-use Rattle.spec_blocks.proofs.BlockFields.{block_is, block_plain, frame_is, frame_plain}
+use Rattle.spec_blocks.proofs.BlockFields.{block_syntax, frame_syntax}
 use Rattle.spec_sequence.specs.declared.fault.Fault.{Fault}
 use Rattle.spec_sequence.specs.declared.fault.Fault.TheVariants as fault
 use Rattle.spec_sequence.specs.Content.{Kind, SequenceHeader, CodecConfig, AudioElement, MixPresentation, ParameterBlock, TemporalDelimiter, AudioFrame, Reserved, Content, Header, Codec, Element, Mix, Block, Frame, Nothing, Context, Says, SaysNot, fields_of}
@@ -35,7 +34,7 @@ use Rattle.spec_sequence.proofs.WholeBytes.{FillsBytes}
 use Rattle.spec_sequence.proofs.DescriptorBytes.{sequence_header_fills, codec_config_fills, audio_element_fills}
 use Rattle.spec_sequence.proofs.MixBytes.{mix_presentation_fills}
 use Rattle.spec_sequence.proofs.BlockBytes.{parameter_block_fills, audio_frame_fills}
-use Rattle.spec_sequence.proofs.BytesOfBits.{same_bytes}
+use Rattle.spec_bits.proofs.ByteForms.{same_bytes}
 
 -- a syntax that fills whole bytes, with the content and the fault that its records and its faults stand for
 pub record Table : Type 1 where
@@ -50,15 +49,6 @@ pub record Table : Type 1 where
   pub fault : F → Fault
 
 -- ---- the tables
-
-pub element_syntax : (frame_length : ℕ) → IsSyntaxOf (λ e. descriptor.Field e) (audio_element frame_length) audio_element_fields
-element_syntax frame_length = syntax_of _ (audio_element frame_length) audio_element_fields (audio_element_is frame_length) (audio_element_plain frame_length)
-
-pub block_syntax : (definitions : List Definition) → IsSyntaxOf (λ e. block.Field e) (parameter_block definitions) block_fields
-block_syntax definitions = syntax_of _ (parameter_block definitions) block_fields (block_is definitions) (block_plain definitions)
-
-pub frame_syntax : (obu_type : ℕ) → IsSyntaxOf (λ e. e) (audio_frame obu_type) (frame_fields obu_type)
-frame_syntax obu_type = syntax_of _ (audio_frame obu_type) (frame_fields obu_type) (frame_is obu_type) (frame_plain obu_type)
 
 -- of some payloads nothing is read
 abbrev pub nothing : Syntax FieldFault (Unit {0})
@@ -115,7 +105,7 @@ table context obu_type AudioElement = record {
   wrap = λ e. descriptor.Field e;
   syntax = audio_element context.frame_length;
   fields = audio_element_fields;
-  laws = element_syntax context.frame_length;
+  laws = audio_element_syntax context.frame_length;
   fills = audio_element_fills context.frame_length;
   content = λ e. Element e;
   fault = λ d. fault.Descriptor d;

@@ -1,9 +1,9 @@
 -- What the descriptors of a list say.
-use Rattle.std.specs.Prelude.{ℕ, ◌==◌, Bool, true, false, ◌&&◌, if◌then◌else◌, List, [], ◌∷◌, ◌++◌, fold, is_some, Option, Some, None}
+use Rattle.std.specs.Prelude.{ℕ, ◌==◌, Bool, true, false, ◌&&◌, if◌then◌else◌, List, [], ◌∷◌, fold, Option, Some, None}
 use Rattle.std.specs.List.{flat_map, zip}
 use Rattle.std.specs.Str.{bytes_eq}
 use Rattle.spec_descriptors.specs.ParameterDefinition.{FixedFields}
-use Rattle.spec_blocks.specs.Shape.{Shape, MixGain, Demixing, ReconGain, Definition, shape_of}
+use Rattle.spec_blocks.specs.Shape.{Shape, MixGain, Demixing, ReconGain, Definition, with_definition}
 use Rattle.spec_sequence.specs.Content.{Context}
 use Rattle.spec_sequence.specs.Role.{CodecRole, ElementRole, MixRole, Role, Ignored, SequenceHeader, CodecConfig, AudioElement, MixPresentation, Delimiter, ParameterBlock, AudioFrame}
 
@@ -71,10 +71,6 @@ unfoldable pub frame_length : List Role → ℕ
 frame_length l = first_length (codecs l)
 
 -- ---- definitions
-
--- with a definition that goes last where its id is new
-abbrev pub with_definition : List Definition → Definition → List Definition
-with_definition known d = if is_some (shape_of known d.parameter_id) then known else known ++ d ∷ []
 
 -- the definitions in the order in which they come, each id once
 unfoldable pub definitions : List Role → List Definition

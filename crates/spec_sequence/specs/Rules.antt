@@ -3,7 +3,7 @@
 -- mix that fits; the order of testing, the numbers and some limits are this project's own.
 use Rattle.std.specs.Prelude.{ℕ, ◌+◌, ◌-◌, ◌*◌, ◌==◌, max, nat_lt, nat_le, Bool, false, not, ◌&&◌, ◌||◌, if◌then◌else◌, List, [], ◌∷◌, ◌++◌, map, Option, Some, None}
 use Rattle.std.specs.List.{list_any, flat_map}
-use Rattle.spec_blocks.specs.Shape.{Shape, MixGain, Demixing, ReconGain, Definition, shape_of}
+use Rattle.spec_blocks.specs.Shape.{Shape, MixGain, Demixing, ReconGain, Definition, shape_of, with_definition}
 use Rattle.spec_samples.specs.Lpcm.{frame_bytes}
 use Rattle.spec_sequence.specs.declared.fault.Fault.{Fault}
 use Rattle.spec_sequence.specs.declared.fault.Fault.TheVariants.{Order, Repeated, Unknown, ParamClash, Incomplete, NoMixFits, SecondSequence, UnitFrame, UnitShort, BlockTime, Lpcm, FlacUnread}
@@ -11,7 +11,7 @@ use Rattle.spec_sequence.specs.declared.fault.Fault.TheVariants as fault
 use Rattle.spec_sequence.specs.Content.{Kind}
 use Rattle.spec_sequence.specs.Content as kind
 use Rattle.spec_sequence.specs.Role.{CodecRole, Trim, Role, Ignored, SequenceHeader, CodecConfig, AudioElement, MixPresentation, Delimiter, ParameterBlock, AudioFrame}
-use Rattle.spec_sequence.specs.Descriptors.{rank, profiles, codecs, elements, mixes, substreams, frame_length, definitions, with_definition, same_shape, channels_of}
+use Rattle.spec_sequence.specs.Descriptors.{rank, profiles, codecs, elements, mixes, substreams, frame_length, definitions, same_shape, channels_of}
 use Rattle.spec_sequence.specs.Profile.{has_fit}
 use Rattle.spec_sequence.specs.Units.{contains, is_none_of, is_delimiter, is_data, is_delimited, unit_after, in_units, streams_in, trims_in, trims_before, blocks_in, is_complete, block_end}
 

@@ -4,7 +4,8 @@ ghost use Rattle.spec_syntax.specs.Syntax.{each};
 ghost use Rattle.spec_syntax.specs.Reading.{read};
 ghost use Rattle.spec_blocks.specs.ParameterBlock.{gain_part, gain_in, timed_gain, timed_gain_in, timed_gains, constant_gains, own_gains, defined_gains, subblocks_of};
 ghost use Rattle.obu_descriptors.specs.TimingView.{view_fixed};
-ghost use Rattle.obu_data.specs.Outcome.{ReadsPart, GivesPart};
+ghost use Rattle.obu_descriptors.specs.Outcome.{TakesPart};
+ghost use Rattle.obu_data.specs.Outcome.{ReadsPart};
 ghost use Rattle.obu_data.specs.BlockView.{view_gain_part, view_timed, view_content, IsKnown};
 
 use crate::error::BlockError;
@@ -27,7 +28,7 @@ pub(crate) struct Timed {
 #[tactic(auto, unfolding(spec_blocks::specs::ParameterBlock::gain_part))]
 fn part_of(view: &mut View<'_>) -> Result<GainPart, BlockFault>
     requires { IsOnByte view.old }
-    ensures { GivesPart view_gain_part result view.new (read (λ f. BlockFault.Field f) gain_part view.old) }
+    ensures { TakesPart view_gain_part result view.new (read (λ f. BlockFault.Field f) gain_part view.old) }
 {
     let animation = view.take_leb()?;
     if animation > 2 {
@@ -73,7 +74,7 @@ fn parts_of(
 #[tactic(auto, using(spec_syntax::proofs::Reading::read_bind), unfolding(spec_blocks::specs::ParameterBlock::timed_gain))]
 fn timed_part_of(view: &mut View<'_>) -> Result<(u32, GainPart), BlockFault>
     requires { IsOnByte view.old }
-    ensures { GivesPart (λ t. (t.0, view_gain_part t.1)) result view.new (read (λ f. BlockFault.Field f) timed_gain view.old) }
+    ensures { TakesPart (λ t. (t.0, view_gain_part t.1)) result view.new (read (λ f. BlockFault.Field f) timed_gain view.old) }
 {
     let duration = view.take_leb()?;
     if duration == 0 {

@@ -5,7 +5,8 @@ ghost use Rattle.spec_syntax.specs.Payload.{IsValid};
 ghost use Rattle.spec_blocks.specs.BlockFieldLists.{block_fields};
 ghost use Rattle.spec_blocks.specs.Shape.{shape_of};
 ghost use Rattle.spec_blocks.specs.ParameterBlock.{demixing, content_of, parameter_block};
-ghost use Rattle.obu_data.specs.Outcome.{ReadsPart, GivesPart};
+ghost use Rattle.obu_descriptors.specs.Outcome.{TakesPart};
+ghost use Rattle.obu_data.specs.Outcome.{ReadsPart};
 ghost use Rattle.obu_data.specs.ShapeView.{view_shape};
 ghost use Rattle.obu_data.specs.BlockView.{view_content, view_block, IsKnown};
 ghost use Rattle.obu_data.specs.BlockReading.{ReadsBlock, SpellsBlock, FollowsShape};
@@ -24,7 +25,7 @@ use std::alloc::Global;
 #[tactic(auto, unfolding(spec_blocks::specs::ParameterBlock::demixing))]
 fn demixing_of<'a>(view: &mut View<'a>) -> Result<Content<'a>, BlockFault>
     requires { IsOnByte view.old }
-    ensures reads { GivesPart view_content result view.new (read (λ f. BlockFault.Field f) demixing view.old) }
+    ensures reads { TakesPart view_content result view.new (read (λ f. BlockFault.Field f) demixing view.old) }
     ensures known { IfOk result (λ content. IsKnown content) }
 {
     let mode = view.take_bits(3)? as u8;

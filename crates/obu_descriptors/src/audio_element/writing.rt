@@ -3,7 +3,7 @@ ghost use Rattle.spec_bits.specs.Bits.{all_bits};
 ghost use Rattle.spec_syntax.specs.Payload.{canon, IsValid};
 ghost use Rattle.spec_descriptors.specs.AudioElement.{audio_element, type_of};
 ghost use Rattle.spec_descriptors.specs.ElementFields.{front_of, front_fields, audio_element_fields};
-ghost use Rattle.obu_descriptors.specs.Writing.{FitsAll};
+ghost use Rattle.spec_syntax.specs.Fitting.{AllFit};
 ghost use Rattle.obu_descriptors.specs.ConfigView.{view_config};
 ghost use Rattle.obu_descriptors.specs.ElementView.{view_element};
 ghost use Rattle.obu_descriptors.specs.ElementReading.{ReadsAs};
@@ -28,10 +28,10 @@ fn type_of(config: &ElementConfig<'_>) -> u8
 }
 
 /// Puts what stands before the parameters.
-#[tactic(auto, using(crate::proofs::Spelling::one_after))]
+#[tactic(auto, using(spec_bits::proofs::JoinLaws::joins))]
 fn put_front(out: &mut Out, element: &AudioElement<'_>) -> Result<(), AllocError>
     requires used { out.old.used ≡ 0 }
-    requires fits { FitsAll (front_fields (front_of (view_element element.now))) }
+    requires fits { AllFit (front_fields (front_of (view_element element.now))) }
     ensures bits { OnOk result (out.new.bits ≡ out.old.bits ++ canon (front_fields (front_of (view_element element.now)))) }
     ensures used { OnOk result (out.new.used ≡ 0) }
 {
@@ -44,10 +44,10 @@ fn put_front(out: &mut Out, element: &AudioElement<'_>) -> Result<(), AllocError
 }
 
 /// Puts all fields, without the tail.
-#[tactic(auto, using(crate::proofs::Spelling::one_after, crate::proofs::Spelling::canon_both, crate::proofs::Fitting::fit_left, crate::proofs::Fitting::fit_right))]
+#[tactic(auto, using(spec_bits::proofs::JoinLaws::joins, spec_syntax::proofs::Writing::canon_append, spec_syntax::proofs::Fitting::fit_front, spec_syntax::proofs::Fitting::fit_rest))]
 fn put_fields(out: &mut Out, element: &AudioElement<'_>) -> Result<(), AllocError>
     requires used { out.old.used ≡ 0 }
-    requires fits { FitsAll (audio_element_fields (view_element element.now)) }
+    requires fits { AllFit (audio_element_fields (view_element element.now)) }
     ensures bits { OnOk result (out.new.bits ≡ out.old.bits ++ canon (audio_element_fields (view_element element.now))) }
     ensures used { OnOk result (out.new.used ≡ 0) }
 {

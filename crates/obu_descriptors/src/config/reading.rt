@@ -16,7 +16,6 @@ use spec_descriptors::DescriptorFault;
 use std::alloc::Global;
 
 /// How many substreams the layers have.
-
 fn substreams_of(layers: &[Layer]) -> u32
     requires { length layers.now ≤ 6 }
     ensures { result ≡ substreams_of (map view_layer layers.now) }

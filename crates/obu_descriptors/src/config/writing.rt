@@ -2,7 +2,7 @@ ghost use Rattle.std.specs.Prelude.{◌≡◌, ℕ, ◌++◌, OnOk};
 ghost use Rattle.spec_syntax.specs.Payload.{canon};
 ghost use Rattle.spec_descriptors.specs.Ambisonics.{Mono, Projection};
 ghost use Rattle.spec_descriptors.specs.ElementFields.{ambisonics_fields, config_fields};
-ghost use Rattle.obu_descriptors.specs.Writing.{FitsAll};
+ghost use Rattle.spec_syntax.specs.Fitting.{AllFit};
 ghost use Rattle.obu_descriptors.specs.ConfigView.{view_config};
 
 use crate::config::ElementConfig;
@@ -11,7 +11,7 @@ use crate::parameter::put_sized;
 use iamf_bits::Out;
 use std::alloc::AllocError;
 
-#[tactic(auto, using(crate::proofs::Spelling::one_after, crate::proofs::Spelling::bytes_spelled, crate::proofs::Spelling::mapping_spelled))]
+#[tactic(auto, using(spec_bits::proofs::JoinLaws::joins, crate::proofs::Spelling::bytes_spelled, crate::proofs::Spelling::mapping_spelled))]
 fn put_mono(out: &mut Out, outputs: u8, substreams: u8, mapping: &[u8]) -> Result<(), AllocError>
     requires { out.old.used ≡ 0 }
     ensures bits { OnOk result (out.new.bits ≡ out.old.bits ++ canon (ambisonics_fields (Mono outputs substreams mapping.now))) }
@@ -24,7 +24,7 @@ fn put_mono(out: &mut Out, outputs: u8, substreams: u8, mapping: &[u8]) -> Resul
     Ok(())
 }
 
-#[tactic(auto, using(crate::proofs::Spelling::one_after, crate::proofs::Spelling::none_after, crate::proofs::Spelling::bytes_spelled))]
+#[tactic(auto, using(spec_bits::proofs::JoinLaws::joins, crate::proofs::Spelling::bytes_spelled))]
 fn put_projection(
     out: &mut Out,
     outputs: u8,
@@ -51,7 +51,7 @@ pub(crate) fn put_config(
     substreams: usize,
 ) -> Result<(), AllocError>
     requires used { out.old.used ≡ 0 }
-    requires fits { FitsAll (config_fields (view_config substreams config.now)) }
+    requires fits { AllFit (config_fields (view_config substreams config.now)) }
     ensures bits { OnOk result (out.new.bits ≡ out.old.bits ++ canon (config_fields (view_config substreams config.now))) }
     ensures used { OnOk result (out.new.used ≡ 0) }
 {

@@ -3,7 +3,7 @@ ghost use Rattle.spec_syntax.specs.Payload.{canon};
 ghost use Rattle.spec_syntax.specs.Repetition.{joined};
 ghost use Rattle.spec_layouts.specs.Layouts.{code_of};
 ghost use Rattle.spec_descriptors.specs.ElementFields.{gain_fields, counts_fields, layer_fields, scalable_fields};
-ghost use Rattle.obu_descriptors.specs.Writing.{FitsAll};
+ghost use Rattle.spec_syntax.specs.Fitting.{AllFit};
 ghost use Rattle.obu_descriptors.specs.LayerView.{view_gain, view_layer};
 
 use crate::layer::{Layer, OutputGain};
@@ -30,10 +30,10 @@ fn code_of(layout: Layout) -> u32
     }
 }
 
-#[tactic(auto, using(crate::proofs::Spelling::one_after, crate::proofs::Spelling::none_after))]
+#[tactic(auto, using(spec_bits::proofs::JoinLaws::joins))]
 fn put_gain(out: &mut Out, gain: &OutputGain) -> Result<(), AllocError>
     requires used { out.old.used ≡ 0 }
-    requires fits { FitsAll (gain_fields (Some (view_gain gain.now))) }
+    requires fits { AllFit (gain_fields (Some (view_gain gain.now))) }
     ensures bits { OnOk result (out.new.bits ≡ out.old.bits ++ canon (gain_fields (Some (view_gain gain.now)))) }
     ensures used { OnOk result (out.new.used ≡ 0) }
 {
@@ -44,10 +44,10 @@ fn put_gain(out: &mut Out, gain: &OutputGain) -> Result<(), AllocError>
 }
 
 /// Puts the fields of a layer after its layout.
-#[tactic(auto, using(crate::proofs::Spelling::one_after, crate::proofs::Spelling::none_after))]
+#[tactic(auto, using(spec_bits::proofs::JoinLaws::joins))]
 fn put_counts(out: &mut Out, layer: &Layer) -> Result<(), AllocError>
     requires used { out.old.used ≡ 4 }
-    requires fits { FitsAll (counts_fields (view_layer layer.now)) }
+    requires fits { AllFit (counts_fields (view_layer layer.now)) }
     ensures bits { OnOk result (out.new.bits ≡ out.old.bits ++ canon (counts_fields (view_layer layer.now))) }
     ensures used { OnOk result (out.new.used ≡ 0) }
 {
@@ -62,10 +62,10 @@ fn put_counts(out: &mut Out, layer: &Layer) -> Result<(), AllocError>
     Ok(())
 }
 
-#[tactic(auto, using(crate::proofs::Spelling::one_after))]
+#[tactic(auto, using(spec_bits::proofs::JoinLaws::joins))]
 fn put_layer(out: &mut Out, layer: &Layer) -> Result<(), AllocError>
     requires used { out.old.used ≡ 0 }
-    requires fits { FitsAll (layer_fields (view_layer layer.now)) }
+    requires fits { AllFit (layer_fields (view_layer layer.now)) }
     ensures bits { OnOk result (out.new.bits ≡ out.old.bits ++ canon (layer_fields (view_layer layer.now))) }
     ensures used { OnOk result (out.new.used ≡ 0) }
 {
@@ -76,7 +76,7 @@ fn put_layer(out: &mut Out, layer: &Layer) -> Result<(), AllocError>
 
 fn put_each(out: &mut Out, layers: &[Layer]) -> Result<(), AllocError>
     requires used { out.old.used ≡ 0 }
-    requires fits { FitsAll (joined layer_fields (map view_layer layers.now)) }
+    requires fits { AllFit (joined layer_fields (map view_layer layers.now)) }
     ensures bits { OnOk result (out.new.bits ≡ out.old.bits ++ canon (joined layer_fields (map view_layer layers.now))) }
     ensures used { OnOk result (out.new.used ≡ 0) }
 {
@@ -87,10 +87,10 @@ fn put_each(out: &mut Out, layers: &[Layer]) -> Result<(), AllocError>
 }
 
 /// Puts how many layers there are, and then each.
-#[tactic(auto, using(crate::proofs::Spelling::one_after, crate::proofs::Lists::length_map))]
+#[tactic(auto, using(spec_bits::proofs::JoinLaws::joins, spec_syntax::proofs::Writing::views))]
 pub(crate) fn put_layers(out: &mut Out, layers: &[Layer]) -> Result<(), AllocError>
     requires used { out.old.used ≡ 0 }
-    requires fits { FitsAll (scalable_fields (map view_layer layers.now)) }
+    requires fits { AllFit (scalable_fields (map view_layer layers.now)) }
     ensures bits { OnOk result (out.new.bits ≡ out.old.bits ++ canon (scalable_fields (map view_layer layers.now))) }
     ensures used { OnOk result (out.new.used ≡ 0) }
 {

@@ -3,7 +3,7 @@ ghost use Rattle.spec_bits.specs.Form.{Leb128};
 ghost use Rattle.spec_syntax.specs.Payload.{a_field, canon};
 ghost use Rattle.spec_syntax.specs.Repetition.{joined};
 ghost use Rattle.spec_descriptors.specs.ElementFields.{default_fields, sized_fields, parameter_fields};
-ghost use Rattle.obu_descriptors.specs.Writing.{FitsAll};
+ghost use Rattle.spec_syntax.specs.Fitting.{AllFit};
 ghost use Rattle.obu_descriptors.specs.ParameterView.{view_param};
 
 use crate::parameter::Param;
@@ -11,7 +11,7 @@ use crate::timing::put_timing;
 use iamf_bits::Out;
 use std::alloc::AllocError;
 
-#[tactic(auto, using(crate::proofs::Spelling::one_after, crate::proofs::Spelling::none_after))]
+#[tactic(auto, using(spec_bits::proofs::JoinLaws::joins))]
 fn put_defaults(out: &mut Out, mode: u8, weight: u8) -> Result<(), AllocError>
     requires used { out.old.used ≡ 0 }
     requires mode { mode < 2 ^ 3 }
@@ -27,7 +27,7 @@ fn put_defaults(out: &mut Out, mode: u8, weight: u8) -> Result<(), AllocError>
 }
 
 /// Puts bytes after their number.
-#[tactic(auto, using(crate::proofs::Spelling::one_after, crate::proofs::Spelling::none_after))]
+#[tactic(auto, using(spec_bits::proofs::JoinLaws::joins))]
 pub(crate) fn put_sized(out: &mut Out, bytes: &[u8]) -> Result<(), AllocError>
     requires used { out.old.used ≡ 0 }
     requires few { length bytes.now < 2 ^ 32 }
@@ -39,10 +39,10 @@ pub(crate) fn put_sized(out: &mut Out, bytes: &[u8]) -> Result<(), AllocError>
     Ok(())
 }
 
-#[tactic(auto, using(crate::proofs::Spelling::one_after, crate::proofs::Spelling::canon_both, crate::proofs::Fitting::fit_left, crate::proofs::Fitting::fit_right))]
+#[tactic(auto, using(spec_bits::proofs::JoinLaws::joins, spec_syntax::proofs::Writing::canon_append, spec_syntax::proofs::Fitting::fit_front, spec_syntax::proofs::Fitting::fit_rest))]
 fn put_param(out: &mut Out, param: &Param<'_>) -> Result<(), AllocError>
     requires used { out.old.used ≡ 0 }
-    requires fits { FitsAll (parameter_fields (view_param param.now)) }
+    requires fits { AllFit (parameter_fields (view_param param.now)) }
     ensures bits { OnOk result (out.new.bits ≡ out.old.bits ++ canon (parameter_fields (view_param param.now))) }
     ensures used { OnOk result (out.new.used ≡ 0) }
 {
@@ -70,7 +70,7 @@ fn put_param(out: &mut Out, param: &Param<'_>) -> Result<(), AllocError>
 
 fn put_each(out: &mut Out, params: &[Param<'_>]) -> Result<(), AllocError>
     requires used { out.old.used ≡ 0 }
-    requires fits { FitsAll (joined parameter_fields (map view_param params.now)) }
+    requires fits { AllFit (joined parameter_fields (map view_param params.now)) }
     ensures bits { OnOk result (out.new.bits ≡ out.old.bits ++ canon (joined parameter_fields (map view_param params.now))) }
     ensures used { OnOk result (out.new.used ≡ 0) }
 {
@@ -81,10 +81,10 @@ fn put_each(out: &mut Out, params: &[Param<'_>]) -> Result<(), AllocError>
 }
 
 /// Puts how many parameters there are, and then each.
-#[tactic(auto, using(crate::proofs::Spelling::one_after, crate::proofs::Lists::length_map))]
+#[tactic(auto, using(spec_bits::proofs::JoinLaws::joins, spec_syntax::proofs::Writing::views))]
 pub(crate) fn put_params(out: &mut Out, params: &[Param<'_>]) -> Result<(), AllocError>
     requires used { out.old.used ≡ 0 }
-    requires fits { FitsAll (a_field Leb128 (length (map view_param params.now)) ∷ joined parameter_fields (map view_param params.now)) }
+    requires fits { AllFit (a_field Leb128 (length (map view_param params.now)) ∷ joined parameter_fields (map view_param params.now)) }
     ensures bits { OnOk result (out.new.bits ≡ out.old.bits ++ canon (a_field Leb128 (length (map view_param params.now)) ∷ joined parameter_fields (map view_param params.now))) }
     ensures used { OnOk result (out.new.used ≡ 0) }
 {

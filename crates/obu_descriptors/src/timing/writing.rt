@@ -1,7 +1,7 @@
 ghost use Rattle.std.specs.Prelude.{◌≡◌, ◌++◌, OnOk};
 ghost use Rattle.spec_syntax.specs.Payload.{canon};
-ghost use Rattle.spec_descriptors.specs.ElementFields.{fixed_fields, definition_fields};
-ghost use Rattle.obu_descriptors.specs.Writing.{FitsAll};
+ghost use Rattle.spec_descriptors.specs.TimingFields.{fixed_fields, definition_fields};
+ghost use Rattle.spec_syntax.specs.Fitting.{AllFit};
 ghost use Rattle.obu_descriptors.specs.TimingView.{view_timing, view_fixed};
 
 use crate::numbers::put_numbers;
@@ -9,10 +9,10 @@ use crate::timing::{Fixed, Timing};
 use iamf_bits::Out;
 use std::alloc::AllocError;
 
-#[tactic(auto, using(crate::proofs::Spelling::one_after, crate::proofs::Spelling::none_after))]
+#[tactic(auto, using(spec_bits::proofs::JoinLaws::joins))]
 fn put_fixed(out: &mut Out, fixed: &Fixed) -> Result<(), AllocError>
     requires used { out.old.used ≡ 0 }
-    requires fits { FitsAll (fixed_fields (view_fixed fixed.now)) }
+    requires fits { AllFit (fixed_fields (view_fixed fixed.now)) }
     ensures bits { OnOk result (out.new.bits ≡ out.old.bits ++ canon (fixed_fields (view_fixed fixed.now))) }
     ensures used { OnOk result (out.new.used ≡ 0) }
 {
@@ -25,10 +25,10 @@ fn put_fixed(out: &mut Out, fixed: &Fixed) -> Result<(), AllocError>
 }
 
 /// Puts the fields of a parameter definition, without those of its kind.
-#[tactic(auto, using(crate::proofs::Spelling::one_after))]
-pub(crate) fn put_timing(out: &mut Out, timing: &Timing) -> Result<(), AllocError>
+#[tactic(auto, using(spec_bits::proofs::JoinLaws::joins))]
+pub fn put_timing(out: &mut Out, timing: &Timing) -> Result<(), AllocError>
     requires used { out.old.used ≡ 0 }
-    requires fits { FitsAll (definition_fields (view_timing timing.now)) }
+    requires fits { AllFit (definition_fields (view_timing timing.now)) }
     ensures bits { OnOk result (out.new.bits ≡ out.old.bits ++ canon (definition_fields (view_timing timing.now))) }
     ensures used { OnOk result (out.new.used ≡ 0) }
 {

@@ -3,7 +3,8 @@ ghost use Rattle.spec_bits.specs.Cursor.{IsOnByte};
 ghost use Rattle.spec_syntax.specs.Syntax.{each};
 ghost use Rattle.spec_syntax.specs.Reading.{read};
 ghost use Rattle.spec_descriptors.specs.MixPresentation.{loudness_layout, anchor, anchored_loudness, info_type_extension, maybe_true_peak, maybe_anchors, maybe_extension, loudness, loudness_in};
-ghost use Rattle.obu_mix.specs.Outcome.{ReadsPart, GivesPart};
+ghost use Rattle.obu_descriptors.specs.Outcome.{TakesPart};
+ghost use Rattle.obu_mix.specs.Outcome.{ReadsPart};
 ghost use Rattle.obu_mix.specs.LoudnessView.{view_anchor, view_loudness};
 
 use crate::error::MixError;
@@ -17,7 +18,7 @@ use std::alloc::Global;
 #[tactic(auto, unfolding(spec_descriptors::specs::MixPresentation::loudness_layout))]
 fn system_of(view: &mut View<'_>) -> Result<Option<u8>, MixFault>
     requires { IsOnByte view.old }
-    ensures { GivesPart (λ s. s) result view.new (read (λ f. MixFault.Field f) loudness_layout view.old) }
+    ensures { TakesPart (λ s. s) result view.new (read (λ f. MixFault.Field f) loudness_layout view.old) }
 {
     let kind = view.take_bits(2)?;
     if kind < 2 {
@@ -36,7 +37,7 @@ fn system_of(view: &mut View<'_>) -> Result<Option<u8>, MixFault>
 #[tactic(auto, unfolding(spec_descriptors::specs::MixPresentation::maybe_true_peak))]
 fn true_peak_of(view: &mut View<'_>, info: u8) -> Result<Option<i16>, MixFault>
     requires { IsOnByte view.old }
-    ensures { GivesPart (λ p. p) result view.new (read (λ f. MixFault.Field f) (maybe_true_peak info) view.old) }
+    ensures { TakesPart (λ p. p) result view.new (read (λ f. MixFault.Field f) (maybe_true_peak info) view.old) }
 {
     if info % 2 == 0 {
         return Ok(None);
@@ -49,7 +50,7 @@ fn true_peak_of(view: &mut View<'_>, info: u8) -> Result<Option<i16>, MixFault>
 #[tactic(auto, unfolding(spec_descriptors::specs::MixPresentation::anchor))]
 fn anchor_of(view: &mut View<'_>) -> Result<Anchor, MixFault>
     requires { IsOnByte view.old }
-    ensures { GivesPart view_anchor result view.new (read (λ f. MixFault.Field f) anchor view.old) }
+    ensures { TakesPart view_anchor result view.new (read (λ f. MixFault.Field f) anchor view.old) }
 {
     let kind = view.take_bits(8)? as u8;
     let loudness = view.take_i16()?;
@@ -87,7 +88,7 @@ fn anchors_of(alloc: Global, view: &mut View<'_>, info: u8) -> Result<SmallVec<A
 #[tactic(auto, unfolding(spec_descriptors::specs::MixPresentation::maybe_extension, spec_descriptors::specs::MixPresentation::info_type_extension))]
 fn extra_of<'a>(view: &mut View<'a>, info: u8) -> Result<&'a [u8], MixFault>
     requires { IsOnByte view.old }
-    ensures { GivesPart (λ b. b.now) result view.new (read (λ f. MixFault.Field f) (maybe_extension info) view.old) }
+    ensures { TakesPart (λ b. b.now) result view.new (read (λ f. MixFault.Field f) (maybe_extension info) view.old) }
 {
     if info < 4 {
         return Ok(&[]);

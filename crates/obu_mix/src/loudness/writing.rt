@@ -1,7 +1,8 @@
 ghost use Rattle.std.specs.Prelude.{◌≡◌, map};
 ghost use Rattle.spec_syntax.specs.Repetition.{joined};
 ghost use Rattle.spec_descriptors.specs.MixFields.{layout_fields, levels_fields, true_peak_fields, anchor_fields, anchors_fields, extension_fields, loudness_fields, layouts_fields};
-ghost use Rattle.obu_mix.specs.Puts.{AllFit, Puts};
+ghost use Rattle.spec_syntax.specs.Fitting.{AllFit};
+ghost use Rattle.obu_descriptors.specs.Writing.{Puts};
 ghost use Rattle.obu_mix.specs.LoudnessView.{view_anchor, view_loudness};
 
 use crate::loudness::{Anchor, LayoutLoudness};
@@ -9,7 +10,7 @@ use iamf_bits::Out;
 use std::alloc::AllocError;
 
 /// Puts a layout.
-#[tactic(auto, using(crate::proofs::Puts::append_law))]
+#[tactic(auto, using(spec_bits::proofs::JoinLaws::joins))]
 fn put_system(out: &mut Out, system: Option<u8>) -> Result<(), AllocError>
     requires used { out.old.used ≡ 0 }
     requires fits { AllFit (layout_fields system) }
@@ -30,7 +31,7 @@ fn put_system(out: &mut Out, system: Option<u8>) -> Result<(), AllocError>
 }
 
 /// Puts the type, the loudness and the peak.
-#[tactic(auto, using(crate::proofs::Puts::append_law))]
+#[tactic(auto, using(spec_bits::proofs::JoinLaws::joins))]
 fn put_levels(out: &mut Out, layout: &LayoutLoudness<'_>) -> Result<(), AllocError>
     requires { out.old.used ≡ 0 }
     ensures { Puts result out.old out.new (levels_fields (view_loudness layout.now)) }
@@ -42,7 +43,7 @@ fn put_levels(out: &mut Out, layout: &LayoutLoudness<'_>) -> Result<(), AllocErr
 }
 
 /// Puts the true peak, where there is one.
-#[tactic(auto, using(crate::proofs::Puts::nothing_more))]
+#[tactic(auto, using(spec_bits::proofs::JoinLaws::joins))]
 fn put_true_peak(out: &mut Out, true_peak: Option<i16>) -> Result<(), AllocError>
     requires { out.old.used ≡ 0 }
     ensures { Puts result out.old out.new (true_peak_fields true_peak) }
@@ -55,7 +56,7 @@ fn put_true_peak(out: &mut Out, true_peak: Option<i16>) -> Result<(), AllocError
 }
 
 /// Puts an anchored loudness.
-#[tactic(auto, using(crate::proofs::Puts::append_law))]
+#[tactic(auto, using(spec_bits::proofs::JoinLaws::joins))]
 fn put_anchor(out: &mut Out, anchor: &Anchor) -> Result<(), AllocError>
     requires { out.old.used ≡ 0 }
     ensures { Puts result out.old out.new (anchor_fields (view_anchor anchor.now)) }
@@ -77,7 +78,7 @@ fn put_all_anchors(out: &mut Out, anchors: &[Anchor]) -> Result<(), AllocError>
 }
 
 /// Puts the anchored loudnesses, where the type says that there are some.
-#[tactic(auto, using(crate::proofs::Puts::append_law, crate::proofs::Puts::nothing_more, crate::proofs::Puts::joined_map))]
+#[tactic(auto, using(spec_bits::proofs::JoinLaws::joins, spec_syntax::proofs::Writing::views))]
 fn put_anchors(out: &mut Out, layout: &LayoutLoudness<'_>) -> Result<(), AllocError>
     requires used { out.old.used ≡ 0 }
     requires fits { AllFit (anchors_fields layout.now.info (view_loudness layout.now).anchors) }
@@ -91,7 +92,7 @@ fn put_anchors(out: &mut Out, layout: &LayoutLoudness<'_>) -> Result<(), AllocEr
 }
 
 /// Puts the bytes that are kept unread, where the type says that there are some.
-#[tactic(auto, using(crate::proofs::Puts::append_law, crate::proofs::Puts::nothing_more))]
+#[tactic(auto, using(spec_bits::proofs::JoinLaws::joins))]
 fn put_extra(out: &mut Out, info: u8, extra: &[u8]) -> Result<(), AllocError>
     requires used { out.old.used ≡ 0 }
     requires fits { AllFit (extension_fields info extra.now) }
@@ -105,7 +106,7 @@ fn put_extra(out: &mut Out, info: u8, extra: &[u8]) -> Result<(), AllocError>
 }
 
 /// Puts a layout and its loudness.
-#[tactic(auto, using(crate::proofs::Puts::append_law, crate::proofs::Puts::canon_append, crate::proofs::Puts::fit_front, crate::proofs::Puts::fit_rest), unfolding(spec_descriptors::specs::MixFields::loudness_fields))]
+#[tactic(auto, using(spec_bits::proofs::JoinLaws::joins, spec_syntax::proofs::Writing::canon_append, spec_syntax::proofs::Fitting::fit_front, spec_syntax::proofs::Fitting::fit_rest), unfolding(spec_descriptors::specs::MixFields::loudness_fields))]
 fn put_layout(out: &mut Out, layout: &LayoutLoudness<'_>) -> Result<(), AllocError>
     requires used { out.old.used ≡ 0 }
     requires fits { AllFit (loudness_fields (view_loudness layout.now)) }
@@ -132,7 +133,7 @@ fn put_all_layouts(out: &mut Out, layouts: &[LayoutLoudness<'_>]) -> Result<(), 
 }
 
 /// Puts how many layouts there are, and these.
-#[tactic(auto, using(crate::proofs::Puts::append_law, crate::proofs::Puts::joined_map))]
+#[tactic(auto, using(spec_bits::proofs::JoinLaws::joins, spec_syntax::proofs::Writing::views))]
 pub(crate) fn put_layouts(out: &mut Out, layouts: &[LayoutLoudness<'_>]) -> Result<(), AllocError>
     requires used { out.old.used ≡ 0 }
     requires fits { AllFit (layouts_fields (map view_loudness layouts.now)) }

@@ -1,7 +1,8 @@
 ghost use Rattle.std.specs.Prelude.{◌≡◌, map};
 ghost use Rattle.spec_syntax.specs.Repetition.{joined};
 ghost use Rattle.spec_descriptors.specs.MixFields.{rendering_fields, mix_element_fields, elements_fields};
-ghost use Rattle.obu_mix.specs.Puts.{AllFit, Puts};
+ghost use Rattle.spec_syntax.specs.Fitting.{AllFit};
+ghost use Rattle.obu_descriptors.specs.Writing.{Puts};
 ghost use Rattle.obu_mix.specs.MixElementView.{view_mix_element};
 
 use crate::mix_element::MixElement;
@@ -11,7 +12,7 @@ use iamf_bits::Out;
 use std::alloc::AllocError;
 
 /// Puts how an element is rendered.
-#[tactic(auto, using(crate::proofs::Puts::append_law))]
+#[tactic(auto, using(spec_bits::proofs::JoinLaws::joins))]
 fn put_rendering(out: &mut Out, element: &MixElement<'_>) -> Result<(), AllocError>
     requires used { out.old.used ≡ 0 }
     requires fits { AllFit (rendering_fields (view_mix_element element.now)) }
@@ -25,7 +26,7 @@ fn put_rendering(out: &mut Out, element: &MixElement<'_>) -> Result<(), AllocErr
 }
 
 /// Puts an element.
-#[tactic(auto, using(crate::proofs::Puts::append_law, crate::proofs::Puts::canon_append, crate::proofs::Puts::joined_map, crate::proofs::Puts::fit_front, crate::proofs::Puts::fit_rest), unfolding(spec_descriptors::specs::MixFields::mix_element_fields))]
+#[tactic(auto, using(spec_bits::proofs::JoinLaws::joins, spec_syntax::proofs::Writing::canon_append, spec_syntax::proofs::Writing::views, spec_syntax::proofs::Fitting::fit_front, spec_syntax::proofs::Fitting::fit_rest), unfolding(spec_descriptors::specs::MixFields::mix_element_fields))]
 fn put_element(out: &mut Out, element: &MixElement<'_>) -> Result<(), AllocError>
     requires used { out.old.used ≡ 0 }
     requires fits { AllFit (mix_element_fields (view_mix_element element.now)) }
@@ -51,7 +52,7 @@ fn put_all_elements(out: &mut Out, elements: &[MixElement<'_>]) -> Result<(), Al
 }
 
 /// Puts how many elements there are, and these.
-#[tactic(auto, using(crate::proofs::Puts::append_law, crate::proofs::Puts::joined_map))]
+#[tactic(auto, using(spec_bits::proofs::JoinLaws::joins, spec_syntax::proofs::Writing::views))]
 pub(crate) fn put_elements(out: &mut Out, elements: &[MixElement<'_>]) -> Result<(), AllocError>
     requires used { out.old.used ≡ 0 }
     requires fits { AllFit (elements_fields (map view_mix_element elements.now)) }

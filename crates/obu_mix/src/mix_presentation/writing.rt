@@ -3,7 +3,8 @@ ghost use Rattle.spec_bits.specs.Bits.{all_bits};
 ghost use Rattle.spec_syntax.specs.Payload.{Payload, IsValid, canon};
 ghost use Rattle.spec_descriptors.specs.MixPresentation.{mix_presentation};
 ghost use Rattle.spec_descriptors.specs.MixFields.{mix_presentation_fields};
-ghost use Rattle.obu_mix.specs.Puts.{AllFit, Puts};
+ghost use Rattle.spec_syntax.specs.Fitting.{AllFit};
+ghost use Rattle.obu_descriptors.specs.Writing.{Puts};
 ghost use Rattle.obu_mix.specs.MixView.{view_mix};
 
 use crate::mix_presentation::MixPresentation;
@@ -13,7 +14,7 @@ use iamf_bits::Out;
 use std::alloc::{AllocError, Global};
 
 /// Puts what is known of a mix presentation.
-#[tactic(auto, using(crate::proofs::Puts::append_law, crate::proofs::Puts::canon_append, crate::proofs::Puts::joined_map, crate::proofs::Puts::fit_front, crate::proofs::Puts::fit_rest), unfolding(spec_descriptors::specs::MixFields::mix_presentation_fields))]
+#[tactic(auto, using(spec_bits::proofs::JoinLaws::joins, spec_syntax::proofs::Writing::canon_append, spec_syntax::proofs::Writing::views, spec_syntax::proofs::Fitting::fit_front, spec_syntax::proofs::Fitting::fit_rest), unfolding(spec_descriptors::specs::MixFields::mix_presentation_fields))]
 fn put_mix(out: &mut Out, mix: &MixPresentation<'_>) -> Result<(), AllocError>
     requires used { out.old.used ≡ 0 }
     requires fits { AllFit (mix_presentation_fields (view_mix mix.now)) }

@@ -1,7 +1,8 @@
 ghost use Rattle.std.specs.Prelude.{◌≡◌, map};
 ghost use Rattle.spec_syntax.specs.Repetition.{joined};
 ghost use Rattle.spec_descriptors.specs.MixFields.{sub_mix_fields, sub_mixes_fields};
-ghost use Rattle.obu_mix.specs.Puts.{AllFit, Puts};
+ghost use Rattle.spec_syntax.specs.Fitting.{AllFit};
+ghost use Rattle.obu_descriptors.specs.Writing.{Puts};
 ghost use Rattle.obu_mix.specs.SubMixView.{view_sub_mix};
 
 use crate::loudness::put_layouts;
@@ -12,7 +13,7 @@ use iamf_bits::Out;
 use std::alloc::AllocError;
 
 /// Puts a sub-mix.
-#[tactic(auto, using(crate::proofs::Puts::append_law, crate::proofs::Puts::canon_append, crate::proofs::Puts::fit_front, crate::proofs::Puts::fit_rest), unfolding(spec_descriptors::specs::MixFields::sub_mix_fields))]
+#[tactic(auto, using(spec_bits::proofs::JoinLaws::joins, spec_syntax::proofs::Writing::canon_append, spec_syntax::proofs::Fitting::fit_front, spec_syntax::proofs::Fitting::fit_rest), unfolding(spec_descriptors::specs::MixFields::sub_mix_fields))]
 fn put_sub_mix(out: &mut Out, sub_mix: &SubMix<'_>) -> Result<(), AllocError>
     requires used { out.old.used ≡ 0 }
     requires fits { AllFit (sub_mix_fields (view_sub_mix sub_mix.now)) }
@@ -37,7 +38,7 @@ fn put_all_sub_mixes(out: &mut Out, sub_mixes: &[SubMix<'_>]) -> Result<(), Allo
 }
 
 /// Puts how many sub-mixes there are, and these.
-#[tactic(auto, using(crate::proofs::Puts::append_law, crate::proofs::Puts::joined_map))]
+#[tactic(auto, using(spec_bits::proofs::JoinLaws::joins, spec_syntax::proofs::Writing::views))]
 pub(crate) fn put_sub_mixes(out: &mut Out, sub_mixes: &[SubMix<'_>]) -> Result<(), AllocError>
     requires used { out.old.used ≡ 0 }
     requires fits { AllFit (sub_mixes_fields (map view_sub_mix sub_mixes.now)) }

@@ -1,7 +1,8 @@
 ghost use Rattle.std.specs.Prelude.{◌≡◌};
 ghost use Rattle.spec_syntax.specs.Repetition.{joined};
 ghost use Rattle.spec_descriptors.specs.MixFields.{text_fields};
-ghost use Rattle.obu_mix.specs.Puts.{AllFit, Puts};
+ghost use Rattle.spec_syntax.specs.Fitting.{AllFit};
+ghost use Rattle.obu_descriptors.specs.Writing.{Puts};
 
 use iamf_bits::Out;
 use std::alloc::AllocError;

@@ -1,6 +1,7 @@
 use Rattle.spec_blocks.specs.BlockFieldLists.{gain_fields}
 use Rattle.obu_data.specs.BlockView.{view_gain_part}
-use Rattle.obu_data.proofs.Puts.{put_more, fit_at}
+use Rattle.spec_syntax.proofs.Writing.{put_more}
+use Rattle.spec_syntax.proofs.Fitting.{fit_at}
 use Rattle.obu_data.proofs.block_writing.put_gain_parts.Goals as goal
 
 pub put_gain_part-requires-clause-fits : goal.put_gain_part-requires-clause-fits

@@ -1,6 +1,7 @@
 use Rattle.spec_blocks.specs.BlockFieldLists.{recon_fields}
 use Rattle.obu_data.specs.BlockView.{view_recon_part}
-use Rattle.obu_data.proofs.Puts.{put_item, fit_item}
+use Rattle.spec_syntax.proofs.Writing.{put_item}
+use Rattle.spec_syntax.proofs.Fitting.{fit_item}
 use Rattle.obu_data.proofs.block_writing.put_recon_parts.Goals as goal
 
 pub put_recon_part-requires-clause-fits : goal.put_recon_part-requires-clause-fits

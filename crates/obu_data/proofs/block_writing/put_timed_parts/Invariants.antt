@@ -2,7 +2,7 @@ use Rattle.std.proofs.Common.{◌≡◌, ◌++◌}
 use Rattle.spec_syntax.specs.Payload.{canon}
 use Rattle.spec_syntax.specs.Repetition.{joined}
 use Rattle.spec_blocks.specs.BlockFieldLists.{timed_gain_fields}
-use Rattle.obu_data.specs.Puts.{AllFit}
+use Rattle.spec_syntax.specs.Fitting.{AllFit}
 use Rattle.obu_data.specs.BlockView.{pairs}
 use Rattle.obu_data.proofs.block_writing.put_timed_parts.Given as goal
 

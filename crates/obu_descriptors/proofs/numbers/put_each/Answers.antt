@@ -1,7 +1,7 @@
 use Rattle.std.proofs.Common.{append_assoc, refl}
 use Rattle.std.proofs.lemmas.List.{append-nil}
 use Rattle.spec_syntax.proofs.Writing.{canon_joined_more}
-use Rattle.spec_descriptors.specs.ElementFields.{leb_fields}
+use Rattle.spec_descriptors.specs.TimingFields.{leb_fields}
 use Rattle.obu_descriptors.proofs.numbers.put_each.Goals as goal
 
 pub loop-number-preserved : goal.loop-number-preserved

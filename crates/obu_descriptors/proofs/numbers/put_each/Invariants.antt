@@ -1,7 +1,7 @@
 use Rattle.std.proofs.Common.{◌≡◌, ◌++◌, take}
 use Rattle.spec_syntax.specs.Payload.{canon}
 use Rattle.spec_syntax.specs.Repetition.{joined}
-use Rattle.spec_descriptors.specs.ElementFields.{leb_fields}
+use Rattle.spec_descriptors.specs.TimingFields.{leb_fields}
 use Rattle.obu_descriptors.proofs.numbers.put_each.Given as goal
 
 abbrev pub invariant-loop-number : goal.invariant-loop-number

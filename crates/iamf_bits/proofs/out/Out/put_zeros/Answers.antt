@@ -1,5 +1,5 @@
 use Rattle.spec_bits.specs.Form.{canonical}
-use Rattle.iamf_bits.proofs.Puts.{bits_of-zeros}
+use Rattle.spec_bits.proofs.JoinLaws.{bits_of-zeros}
 use Rattle.iamf_bits.proofs.out.Out.put_zeros.Goals as goal
 
 pub returns-clause-bits : goal.returns-clause-bits

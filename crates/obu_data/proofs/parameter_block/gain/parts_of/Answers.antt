@@ -1,6 +1,6 @@
 use Rattle.spec_syntax.proofs.Reading.{each_goes_on, each_done}
 use Rattle.spec_blocks.specs.ParameterBlock.{gain_in}
-use Rattle.obu_data.proofs.Lists.{map_push}
+use Rattle.std.proofs.lemmas.List.{map_push}
 use Rattle.obu_data.proofs.parameter_block.gain.parts_of.Goals as goal
 
 pub loop-preserved : goal.loop-preserved

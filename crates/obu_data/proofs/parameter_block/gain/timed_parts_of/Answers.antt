@@ -1,9 +1,9 @@
 use Rattle.std.proofs.Common.{map, sym, ◌∙◌, arith}
-use Rattle.std.proofs.lemmas.List.{length-map}
+use Rattle.std.proofs.lemmas.List.{length-map, map_push}
 use Rattle.spec_syntax.proofs.Reading.{each_goes_on, each_done}
 use Rattle.spec_blocks.specs.ParameterBlock.{timed_gain_in}
 use Rattle.obu_data.specs.BlockView.{view_gain_part}
-use Rattle.obu_data.proofs.Lists.{map_push, zip_push, sum_push}
+use Rattle.obu_data.proofs.Lists.{zip_push, sum_push}
 use Rattle.obu_data.proofs.parameter_block.gain.timed_parts_of.Goals as goal
 
 pub loop-preserved : goal.loop-preserved

@@ -1,6 +1,6 @@
 use Rattle.spec_syntax.proofs.Reading.{each_goes_on, each_done}
 use Rattle.spec_blocks.specs.ParameterBlock.{recon_in}
-use Rattle.obu_data.proofs.Lists.{map_push}
+use Rattle.std.proofs.lemmas.List.{map_push}
 use Rattle.obu_data.proofs.parameter_block.recon.parts_of.Goals as goal
 
 pub loop-preserved : goal.loop-preserved

@@ -1,7 +1,8 @@
 use Rattle.std.proofs.Common.{sym, arith}
 use Rattle.spec_syntax.proofs.Reading.{each_goes_on, each_done}
 use Rattle.spec_descriptors.specs.Layers.{layer_in, scalable_config}
-use Rattle.obu_descriptors.proofs.Lists.{map_push, last_layout_push}
+use Rattle.obu_descriptors.proofs.Lists.{last_layout_push}
+use Rattle.std.proofs.lemmas.List.{map_push}
 use Rattle.obu_descriptors.proofs.layer.reading.read_layers.Goals as goal
 
 pub loop-i-preserved : goal.loop-i-preserved

@@ -3,8 +3,8 @@ use Rattle.spec_layouts.specs.declared.Layout.TheVariants.{Mono}
 use Rattle.spec_descriptors.specs.ElementFields.{layer_fields}
 use Rattle.obu_descriptors.specs.declared.layer.Layer.{Layer}
 use Rattle.obu_descriptors.specs.LayerView.{view_layer}
-use Rattle.obu_descriptors.proofs.Fitting.{fit_mapped}
-use Rattle.obu_descriptors.proofs.Spelling.{canon_mapped_more}
+use Rattle.spec_syntax.proofs.Fitting.{fit_mapped}
+use Rattle.spec_syntax.proofs.Writing.{canon_mapped_more}
 use Rattle.obu_descriptors.proofs.layer.writing.put_each.Goals as goal
 
 abbrev blank : Layer

@@ -1,5 +1,5 @@
 use Rattle.spec_syntax.proofs.Reading.{each_goes_on, each_done}
-use Rattle.obu_descriptors.proofs.Lists.{map_push}
+use Rattle.std.proofs.lemmas.List.{map_push}
 use Rattle.obu_descriptors.proofs.parameter.reading.read_params.Goals as goal
 
 pub loop-i-preserved : goal.loop-i-preserved

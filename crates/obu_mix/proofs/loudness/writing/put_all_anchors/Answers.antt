@@ -1,7 +1,7 @@
 use Rattle.std.proofs.Common.{pos}
 use Rattle.spec_descriptors.specs.MixFields.{anchor_fields}
 use Rattle.obu_mix.specs.LoudnessView.{view_anchor}
-use Rattle.obu_mix.proofs.Puts.{put_more}
+use Rattle.spec_syntax.proofs.Writing.{put_more}
 use Rattle.obu_mix.proofs.loudness.writing.put_all_anchors.Goals as goal
 
 pub loop-anchor-preserved : goal.loop-anchor-preserved

@@ -1,6 +1,7 @@
 use Rattle.spec_descriptors.specs.MixFields.{loudness_fields}
 use Rattle.obu_mix.specs.LoudnessView.{view_loudness}
-use Rattle.obu_mix.proofs.Puts.{put_item, fit_item}
+use Rattle.spec_syntax.proofs.Writing.{put_item}
+use Rattle.spec_syntax.proofs.Fitting.{fit_item}
 use Rattle.obu_mix.proofs.loudness.writing.put_all_layouts.Goals as goal
 
 pub put_layout-requires-clause-fits : goal.put_layout-requires-clause-fits

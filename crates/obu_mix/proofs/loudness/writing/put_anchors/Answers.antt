@@ -3,7 +3,7 @@ use Rattle.spec_bits.specs.Form.{Number, canonical}
 use Rattle.spec_descriptors.specs.MixPresentation.{has_bit}
 use Rattle.spec_descriptors.specs.MixFields.{anchor_fields}
 use Rattle.obu_mix.specs.LoudnessView.{view_anchor}
-use Rattle.obu_mix.proofs.Puts.{put_counted}
+use Rattle.spec_syntax.proofs.Writing.{put_counted}
 use Rattle.obu_mix.proofs.loudness.writing.put_anchors.Goals as goal
 
 pub returns-in_ok-put_all_anchors : goal.returns-in_ok-put_all_anchors

@@ -2,7 +2,7 @@ use Rattle.std.proofs.Common.{ℕ}
 use Rattle.spec_bits.specs.Form.{Leb128, canonical}
 use Rattle.spec_descriptors.specs.MixFields.{loudness_fields}
 use Rattle.obu_mix.specs.LoudnessView.{view_loudness}
-use Rattle.obu_mix.proofs.Puts.{put_counted}
+use Rattle.spec_syntax.proofs.Writing.{put_counted}
 use Rattle.obu_mix.proofs.loudness.writing.put_layouts.Goals as goal
 
 pub returns : goal.returns

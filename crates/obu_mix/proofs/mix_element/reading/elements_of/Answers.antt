@@ -1,6 +1,6 @@
 use Rattle.spec_syntax.proofs.Reading.{each_goes_on, each_done}
 use Rattle.spec_descriptors.specs.MixPresentation.{mix_element_in}
-use Rattle.obu_mix.proofs.Lists.{map_push}
+use Rattle.std.proofs.lemmas.List.{map_push}
 use Rattle.obu_mix.proofs.mix_element.reading.elements_of.Goals as goal
 
 pub loop-preserved : goal.loop-preserved

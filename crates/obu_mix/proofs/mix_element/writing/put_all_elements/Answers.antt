@@ -1,6 +1,7 @@
 use Rattle.spec_descriptors.specs.MixFields.{mix_element_fields}
 use Rattle.obu_mix.specs.MixElementView.{view_mix_element}
-use Rattle.obu_mix.proofs.Puts.{put_item, fit_item}
+use Rattle.spec_syntax.proofs.Writing.{put_item}
+use Rattle.spec_syntax.proofs.Fitting.{fit_item}
 use Rattle.obu_mix.proofs.mix_element.writing.put_all_elements.Goals as goal
 
 pub put_element-requires-clause-fits : goal.put_element-requires-clause-fits

@@ -2,7 +2,7 @@ use Rattle.std.proofs.Common.{ℕ}
 use Rattle.spec_bits.specs.Form.{Leb128, canonical}
 use Rattle.spec_descriptors.specs.MixFields.{mix_element_fields}
 use Rattle.obu_mix.specs.MixElementView.{view_mix_element}
-use Rattle.obu_mix.proofs.Puts.{put_counted}
+use Rattle.spec_syntax.proofs.Writing.{put_counted}
 use Rattle.obu_mix.proofs.mix_element.writing.put_elements.Goals as goal
 
 pub returns : goal.returns

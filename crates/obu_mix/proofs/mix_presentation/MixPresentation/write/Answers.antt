@@ -6,7 +6,7 @@ use Rattle.spec_descriptors.specs.MixPresentation.{mix_presentation}
 use Rattle.spec_descriptors.specs.MixFields.{mix_presentation_fields}
 use Rattle.spec_descriptors.proofs.MixSteps.{mix_presentation_syntax}
 use Rattle.obu_mix.specs.MixView.{view_mix}
-use Rattle.obu_mix.proofs.Puts.{stands_fit}
+use Rattle.spec_syntax.proofs.Fitting.{stands_fit}
 use Rattle.obu_mix.proofs.mix_presentation.MixPresentation.write.Goals as goal
 
 pub put_mix-requires-clause-fits : goal.put_mix-requires-clause-fits

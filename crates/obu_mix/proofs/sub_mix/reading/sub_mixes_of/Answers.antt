@@ -1,6 +1,6 @@
 use Rattle.spec_syntax.proofs.Reading.{each_goes_on, each_done}
 use Rattle.spec_descriptors.specs.MixPresentation.{sub_mix_in}
-use Rattle.obu_mix.proofs.Lists.{map_push}
+use Rattle.std.proofs.lemmas.List.{map_push}
 use Rattle.obu_mix.proofs.sub_mix.reading.sub_mixes_of.Goals as goal
 
 pub loop-preserved : goal.loop-preserved

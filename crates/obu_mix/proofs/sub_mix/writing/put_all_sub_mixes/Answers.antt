@@ -1,6 +1,7 @@
 use Rattle.spec_descriptors.specs.MixFields.{sub_mix_fields}
 use Rattle.obu_mix.specs.SubMixView.{view_sub_mix}
-use Rattle.obu_mix.proofs.Puts.{put_item, fit_item}
+use Rattle.spec_syntax.proofs.Writing.{put_item}
+use Rattle.spec_syntax.proofs.Fitting.{fit_item}
 use Rattle.obu_mix.proofs.sub_mix.writing.put_all_sub_mixes.Goals as goal
 
 pub put_sub_mix-requires-clause-fits : goal.put_sub_mix-requires-clause-fits

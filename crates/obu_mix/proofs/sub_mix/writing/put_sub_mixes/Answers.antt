@@ -2,7 +2,7 @@ use Rattle.std.proofs.Common.{ℕ}
 use Rattle.spec_bits.specs.Form.{Leb128, canonical}
 use Rattle.spec_descriptors.specs.MixFields.{sub_mix_fields}
 use Rattle.obu_mix.specs.SubMixView.{view_sub_mix}
-use Rattle.obu_mix.proofs.Puts.{put_counted}
+use Rattle.spec_syntax.proofs.Writing.{put_counted}
 use Rattle.obu_mix.proofs.sub_mix.writing.put_sub_mixes.Goals as goal
 
 pub returns : goal.returns

@@ -1,7 +1,7 @@
 use Rattle.std.proofs.Common.{refl}
 use Rattle.spec_syntax.proofs.Reading.{each_goes_on, each_done}
 use Rattle.spec_descriptors.specs.MixPresentation.{text_in, texts}
-use Rattle.obu_mix.proofs.Lists.{map_push}
+use Rattle.std.proofs.lemmas.List.{map_push}
 use Rattle.obu_mix.proofs.text.reading.texts_of.Goals as goal
 
 pub loop-preserved : goal.loop-preserved

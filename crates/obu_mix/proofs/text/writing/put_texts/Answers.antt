@@ -1,7 +1,9 @@
 use Rattle.std.proofs.Common.{◌∙◌, ◌++◌, ap, sym, List, ℕ, [], Bor}
 use Rattle.spec_bits.specs.Bits.{Bits}
 use Rattle.spec_descriptors.specs.MixFields.{text_fields}
-use Rattle.obu_mix.proofs.Puts.{put_more, nothing_more, fit_at}
+use Rattle.spec_syntax.proofs.Writing.{put_more}
+use Rattle.std.proofs.lemmas.List.{append-nil}
+use Rattle.spec_syntax.proofs.Fitting.{fit_at}
 use Rattle.obu_mix.proofs.text.writing.put_texts.Goals as goal
 
 abbrev no_text : Bor (List ℕ)
@@ -20,5 +22,5 @@ pub loop-text-preserved : goal.loop-text-preserved
 loop-text-preserved c = (
   c.in_ok-put_text.ensures.used,
   put_more (λ t. text_fields t.now) c.args.texts.now c.loop-text.text-index no_text _ _ _ c.loop-text-test.true c.loop-text.invariant.1
-      (c.in_ok-put_text.ensures.bits ∙ ap (λ (b : Bits). c.loop-text.out.bits ++ b) (sym (nothing_more _))),
+      (c.in_ok-put_text.ensures.bits ∙ ap (λ (b : Bits). c.loop-text.out.bits ++ b) (sym (append-nil _))),
 )

@@ -54,7 +54,7 @@ def report(folder, scale):
             growth = twice.seconds / once.seconds
             row(command, case.name, str(number), f"{once.seconds:.3f}", f"{twice.seconds:.3f}", f"{growth:.2f}",
                 met(growth < GROWTH_LIMIT), f"{once.above:.0f}", f"{twice.above:.0f}",
-                met(max(once.above, twice.above) <= MEMORY_LIMIT) if command == "check" else "no limit")
+                met(max(once.above, twice.above) <= MEMORY_LIMIT))
 
 
 def main():

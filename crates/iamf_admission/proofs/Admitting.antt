@@ -1,19 +1,23 @@
 -- An OBU that has no fault: what follows, and what an admission keeps then.
-use Rattle.std.proofs.Common.{◌≡◌, ℕ, ◌+◌, ◌-◌, ◌<◌, Bool, true, false, not, ◌&&◌, ◌||◌, cond, ltb, List, [], ◌∷◌, ◌++◌, length, map, refl, sym, ap, ◌∙◌, subst, append_assoc, append-nil, lt-ltb, true≢false, arith}
+use Rattle.std.proofs.Common.{◌≡◌, ℕ, ◌+◌, ◌-◌, ◌<◌, Bool, true, false, not, ◌&&◌, ◌||◌, ltb, List, [], ◌∷◌, ◌++◌, length, refl, sym, ap, ◌∙◌, subst, append_assoc, append-nil, true≢false, arith}
 use Rattle.std.specs.Prelude.{Option, Some, None}
 use Rattle.std.specs.List.{list_any, flat_map}
 use Rattle.std.proofs.lemmas.Bool.{or_parts, or_right, not-false}
 use Rattle.spec_blocks.specs.Shape.{Shape, MixGain, Demixing, ReconGain, shape_of}
 use Rattle.spec_sequence.specs.declared.fault.Fault.{Fault}
-use Rattle.spec_sequence.specs.declared.fault.Fault.TheVariants.{Order, Repeated, Unknown, Incomplete, NoMixFits, SecondSequence, UnitFrame, UnitShort, BlockTime}
-use Rattle.spec_sequence.specs.declared.fault.Fault.TheVariants as fault
+use Rattle.spec_sequence.specs.declared.fault.Fault.TheVariants.{Incomplete, NoMixFits}
 use Rattle.spec_sequence.specs.Content as kind
 use Rattle.spec_sequence.specs.Role as role
-use Rattle.spec_sequence.specs.Role.{Role, Ignored, SequenceHeader, CodecConfig, AudioElement, MixPresentation, Delimiter, ParameterBlock, AudioFrame, ElementRole, MixRole, BlockRole, FrameRole}
-use Rattle.spec_sequence.specs.Descriptors.{rank, profiles, codecs, elements, mixes, substreams, frame_length, definitions, channels_of}
+use Rattle.spec_sequence.specs.Role.{Role, Ignored, SequenceHeader, CodecConfig, AudioElement, MixPresentation, Delimiter, ParameterBlock, AudioFrame, ElementRole, MixRole, FrameRole}
+use Rattle.spec_sequence.specs.Descriptors.{profiles, codecs, elements, mixes, substreams, frame_length, definitions}
 use Rattle.spec_sequence.specs.Profile.{has_fit}
-use Rattle.spec_sequence.specs.Units.{contains, is_none_of, is_data, is_delimiter, is_delimited, open_unit, unit_after, streams_in, trims_in, trims_before, is_complete, duration_by, duration_of}
-use Rattle.spec_sequence.specs.Rules.{when, first_of, repeated, unknown, clashing, is_out_of_order, lacks_descriptors, element_ids, start_tests, same_trim, keeps, cuts, has_bad_trim, rate_of, codec_tests, fault_before, fault_after}
+use Rattle.spec_sequence.specs.Units.{contains, is_none_of, is_data, is_delimited, open_unit, unit_after, streams_in, trims_in, trims_before, is_complete, duration_by, duration_of}
+use Rattle.spec_sequence.specs.Rules.{first_of, is_out_of_order, lacks_descriptors, start_tests, same_trim, keeps, cuts, rate_of, fault_before, fault_after}
+use Rattle.spec_sequence.proofs.NoFault.{when_none, header_before, codec_before, element_before, mix_before, codec_none, element_none, delimiter_none, frame_none}
+use Rattle.spec_sequence.proofs.Basics.{none_of, any-push_none, any-push}
+use Rattle.spec_sequence.proofs.Ranks.{no_data-order, order_parts}
+use Rattle.spec_sequence.proofs.Placing.{is_delimited-kept, unit_after-other}
+use Rattle.spec_sequence.proofs.DescriptorLists.{profiles-push_none, mixes-push_none, substreams-push, substreams-more}
 use Rattle.iamf_admission.specs.declared.roles.CodecRole.{CodecRole}
 use Rattle.iamf_admission.specs.declared.roles.Trim.{Trim}
 use Rattle.iamf_admission.specs.declared.roles.Known.{Known}
@@ -27,78 +31,40 @@ use Rattle.iamf_admission.specs.AdmissionSteps.{start_of, lasting, WithEnd}
 use Rattle.iamf_admission.specs.Admitted.{HasNoFault, AdmittedAfter, IsAdmitted}
 use Rattle.iamf_admission.specs.Standing.{is_timed, KeepsDescriptors, Stands}
 use Rattle.iamf_admission.proofs.Pigeons.{are_apart, apart_unrepeated}
-use Rattle.iamf_admission.proofs.Placing.{is_delimited-kept, unit_after-other}
-use Rattle.iamf_admission.proofs.Balance.{IsBalanced, balanced-block, balanced-frame, balanced-ignored, balanced-delimiter, balanced-none, any-push_none, profiles-push_none, mixes-push_none, substreams-push}
+use Rattle.iamf_admission.proofs.Balance.{IsBalanced, balanced-block, balanced-frame, balanced-ignored, balanced-delimiter, balanced-none}
 use Rattle.iamf_admission.proofs.Orderly.{IsOrderly, orderly-none, orderly-ignored, orderly-block, orderly-delimiter, orderly-frame}
 use Rattle.iamf_admission.proofs.Faulting.{kept_length, kept_rate, differs_is, ended_is, some_delimiter, frame_of, block_of}
-use Rattle.iamf_admission.proofs.Stepping.{any-push, order_parts, substreams-more, descriptors-header, descriptors-codec, descriptors-element, descriptors-mix, descriptors-data, descriptors-ignored}
+use Rattle.iamf_admission.proofs.Stepping.{descriptors-header, descriptors-codec, descriptors-element, descriptors-mix, descriptors-data, descriptors-ignored}
 use Rattle.iamf_admission.proofs.UnitCount.{IsCounted, counted-none, counted-ignored, counted-block, counted-delimiter, counted-frame}
 use Rattle.iamf_admission.proofs.UnitStepping.{unit-none, unit-ignored, unit-frame, unit-block, unit-delimiter, ends-none, ends-other, ends-block}
 
--- ---- a table without a fault
-
-when_none : (b : Bool) (f : Fault) (rows : List (Option Fault)) → first_of (when b f ∷ rows) ≡ None → (b ≡ false) × (first_of rows ≡ None)
-when_none true f rows h = absurd (grind arith)
-when_none false f rows h = (refl, h)
-
-row_none : (x : Option Fault) (rows : List (Option Fault)) → first_of (x ∷ rows) ≡ None → (x ≡ None) × (first_of rows ≡ None)
-row_none (Some f) rows h = absurd (grind arith)
-row_none None rows h = (refl, h)
-
-none_of : {X : Type 0} (xs : List X) → is_none_of xs ≡ true → xs ≡ []
-none_of [] h = refl
-none_of (x ∷ xs) h = absurd (grind arith)
-
-unrepeated : (known : List ℕ) (id : ℕ) → repeated known (id ∷ []) ≡ None → contains known id ≡ false
-unrepeated known id h = one (contains known id) h where
-  one : (b : Bool) → cond b (Some (Repeated id)) None ≡ None → b ≡ false
-  one true e = absurd (grind arith)
-  one false e = refl
-
-abbrev IsWhole : List Role → Type 0
-IsWhole l = (lacks_descriptors l ≡ false) × (has_fit l ≡ true)
-
 -- ---- a data OBU stands after all descriptors
 
-start_none : (l : List Role) → IsBalanced l → first_of (start_tests l) ≡ None → IsWhole l
-start_none l balanced h =
-    let first : ((not (list_any is_data l) && lacks_descriptors l) ≡ false) × (first_of (when (not (list_any is_data l) && not (has_fit l)) NoMixFits ∷ []) ≡ None) = when_none (not (list_any is_data l) && lacks_descriptors l) Incomplete (when (not (list_any is_data l) && not (has_fit l)) NoMixFits ∷ []) h in
-    let second : ((not (list_any is_data l) && not (has_fit l)) ≡ false) × (first_of [] ≡ None) = when_none (not (list_any is_data l) && not (has_fit l)) NoMixFits [] first.1 in
-    one (list_any is_data l) balanced.started first.0 second.0 where
+abbrev pub IsWhole : List Role → Type 0
+IsWhole l = (lacks_descriptors l ≡ false) × (has_fit l ≡ true)
+
+pub start_none : (l : List Role) (rows : List (Option Fault)) → IsBalanced l → first_of (start_tests l ++ rows) ≡ None → IsWhole l
+start_none l rows balanced h =
+    let lacks = when_none (not (list_any is_data l) && lacks_descriptors l) Incomplete _ h in
+    let fits = when_none (not (list_any is_data l) && not (has_fit l)) NoMixFits rows lacks.1 in
+    one (list_any is_data l) balanced.started lacks.0 fits.0 where
       one : (b : Bool) → (b ≡ true → IsWhole l) → (not b && lacks_descriptors l) ≡ false → (not b && not (has_fit l)) ≡ false → IsWhole l
       one true started x y = started refl
       one false started x y = (x, not-false (has_fit l) y)
 
 block_before : (l : List Role) → IsBalanced l → fault_before l kind.ParameterBlock ≡ None → IsWhole l
 unfolding fault_before
-block_before l balanced h = start_none l balanced h
+block_before l balanced h = start_none l [] balanced h
 
 delimiter_before : (l : List Role) → IsBalanced l → fault_before l kind.TemporalDelimiter ≡ None → IsWhole l
 unfolding fault_before
-delimiter_before l balanced h = start_none l balanced h
+delimiter_before l balanced h = start_none l [] balanced h
 
 frame_before : (l : List Role) → IsBalanced l → fault_before l kind.AudioFrame ≡ None → IsWhole l
 unfolding fault_before
-frame_before l balanced h = start_none l balanced h
+frame_before l balanced h = start_none l [] balanced h
 
 -- ---- a descriptor stands before all data OBUs
-
-rank_data : (r : ℕ) → r < 5 → (l : List Role) → list_any (λ e. ltb r (rank e)) l ≡ false → list_any is_data l ≡ false
-rank_data r small [] h = refl
-rank_data r small (x ∷ xs) h = let parts : (ltb r (rank x) ≡ false) × (list_any (λ e. ltb r (rank e)) xs ≡ false) = or_parts (ltb r (rank x)) (list_any (λ e. ltb r (rank e)) xs) h in
-    one x parts.0 (rank_data r small xs parts.1) where
-      one : (o : Role) → ltb r (rank o) ≡ false → list_any is_data xs ≡ false → (is_data o || list_any is_data xs) ≡ false
-      one Delimiter high rest = absurd (true≢false (sym (lt-ltb r 5 small) ∙ high))
-      one (ParameterBlock b) high rest = absurd (true≢false (sym (lt-ltb r 5 small) ∙ high))
-      one (AudioFrame f) high rest = absurd (true≢false (sym (lt-ltb r 5 small) ∙ high))
-      one Ignored high rest = rest
-      one (SequenceHeader p) high rest = rest
-      one (CodecConfig c) high rest = rest
-      one (AudioElement e) high rest = rest
-      one (MixPresentation m) high rest = rest
-
-no_data-order : (l : List Role) (r : ℕ) → r < 5 → is_out_of_order l r ≡ false → list_any is_data l ≡ false
-no_data-order l r small h = rank_data r small l (order_parts l r h).1
 
 no_data-header : (l : List Role) → IsBalanced l → is_none_of (profiles l) ≡ true → list_any is_data l ≡ false
 unfolding lacks_descriptors
@@ -110,45 +76,13 @@ no_data-header l balanced none = one (list_any is_data l) balanced.started where
 no_data-push : (l : List Role) (o : Role) → is_data o ≡ false → list_any is_data l ≡ false → list_any is_data (l ++ o ∷ []) ≡ false
 no_data-push l o quiet none = any-push_none is_data l o quiet ∙ none
 
--- ---- what a fault that does not come tells, by the kind of OBU
+-- ---- what a fault that does not come tells of the open unit
 
-header_before : (l : List Role) → fault_before l kind.SequenceHeader ≡ None → is_none_of (profiles l) ≡ true
-unfolding fault_before
-header_before l h = not-false (is_none_of (profiles l)) (when_none (not (is_none_of (profiles l))) SecondSequence [] h).0
-
-codec_before : (l : List Role) → fault_before l kind.CodecConfig ≡ None → is_out_of_order l 2 ≡ false
-unfolding fault_before
-codec_before l h = (when_none (is_out_of_order l 2) Order [] h).0
-
-element_before : (l : List Role) → fault_before l kind.AudioElement ≡ None → is_out_of_order l 3 ≡ false
-unfolding fault_before
-element_before l h = (when_none (is_out_of_order l 3) Order [] h).0
-
-mix_before : (l : List Role) → fault_before l kind.MixPresentation ≡ None → is_out_of_order l 4 ≡ false
-unfolding fault_before
-mix_before l h = (when_none (is_out_of_order l 4) Order [] h).0
-
-codec_none : (l : List Role) (c : role.CodecRole) → fault_after l (CodecConfig c) ≡ None → codecs l ≡ []
-unfolding fault_after
-codec_none l c h = none_of (codecs l) (not-false (is_none_of (codecs l)) (when_none (not (is_none_of (codecs l))) (Repeated c.id) [] h).0)
-
-element_none : (l : List Role) (e : ElementRole) → fault_after l (AudioElement e) ≡ None → (contains (element_ids l) e.id ≡ false) × (repeated (substreams l) e.substreams ≡ None)
-unfolding fault_after
-element_none l e h =
-    let first : (repeated (element_ids l) (e.id ∷ []) ≡ None) × (first_of (repeated (substreams l) e.substreams ∷ unknown (map (λ c. c.id) (codecs l)) (e.codec ∷ []) ∷ clashing (definitions l) e.definitions ∷ []) ≡ None) = row_none (repeated (element_ids l) (e.id ∷ [])) _ h in
-    (unrepeated (element_ids l) e.id first.0, (row_none (repeated (substreams l) e.substreams) _ first.1).0)
-
-delimiter_none : (l : List Role) → fault_after l Delimiter ≡ None → (is_delimited (l ++ Delimiter ∷ []) ≡ true) × (list_any is_data l ≡ true → is_complete (open_unit l) l ≡ true)
-unfolding fault_after
-delimiter_none l h =
-    let first : (not (is_delimited (l ++ Delimiter ∷ [])) ≡ false) × (first_of (when (list_any is_delimiter l && not (is_complete (unit_after l Delimiter - 1) l)) UnitShort ∷ []) ≡ None) = when_none (not (is_delimited (l ++ Delimiter ∷ []))) fault.Delimiter _ h in
-    let with : is_delimited (l ++ Delimiter ∷ []) ≡ true = not-false (is_delimited (l ++ Delimiter ∷ [])) first.0 in
-    let last : (list_any is_delimiter l && not (is_complete (unit_after l Delimiter - 1) l)) ≡ false = (when_none (list_any is_delimiter l && not (is_complete (unit_after l Delimiter - 1) l)) UnitShort [] first.1).0 in (
-      with,
-      λ has.
-          let before : is_delimited l ≡ true = sym (is_delimited-kept l (Delimiter ∷ []) has) ∙ with in
-          subst (λ (u : ℕ). is_complete u l ≡ true) (ended_is l before has) (not-false (is_complete (unit_after l Delimiter - 1) l) (sym (ap (λ b. b && not (is_complete (unit_after l Delimiter - 1) l)) (some_delimiter l before)) ∙ last)),
-    )
+complete_before : (l : List Role) → fault_after l Delimiter ≡ None → list_any is_data l ≡ true → is_complete (open_unit l) l ≡ true
+complete_before l h has =
+    let none = delimiter_none l h in
+    let before : is_delimited l ≡ true = sym (is_delimited-kept l (Delimiter ∷ []) has) ∙ none.0 in
+    subst (λ (u : ℕ). is_complete u l ≡ true) (ended_is l before has) (not-false (is_complete (unit_after l Delimiter - 1) l) (sym (ap (λ b. b && not (is_complete (unit_after l Delimiter - 1) l)) (some_delimiter l before)) ∙ none.1))
 
 abbrev too_long : List Role → role.Trim → Bool
 too_long l trim = ltb (frame_length l) (trim.start + trim.end)
@@ -164,18 +98,15 @@ record FrameIsNew (l : List Role) (f : FrameRole) : Type 0 where
   new : contains (streams_in (open_unit l) l) f.substream ≡ false
   alike : list_any (λ other. not (same_trim other f.trim)) (trims_in (open_unit l) l) ≡ false
 
-frame_none : (l : List Role) (f : FrameRole) → fault_after l (AudioFrame f) ≡ None → FrameIsNew l f
-unfolding fault_after
-frame_none l f h =
+frame_is_new : (l : List Role) (f : FrameRole) → fault_after l (AudioFrame f) ≡ None → FrameIsNew l f
+frame_is_new l f h =
     let u : ℕ = unit_after l (AudioFrame f) in
-    let first : ((not (contains (substreams l) f.substream) || contains (streams_in u l) f.substream) ≡ false) × (first_of (when (has_bad_trim l u f.trim) fault.Trim ∷ codec_tests (codecs l) (channels_of l f.substream) f.length) ≡ None) = when_none (not (contains (substreams l) f.substream) || contains (streams_in u l) f.substream) UnitFrame _ h in
-    let good : has_bad_trim l u f.trim ≡ false = (when_none (has_bad_trim l u f.trim) fault.Trim _ first.1).0 in
-    let three : (too_long l f.trim || is_other l u f.trim || is_early l u f.trim) ≡ false = (or_parts _ (list_any cuts (trims_before u l)) good).0 in
+    let none = frame_none l f h in
+    let three : (too_long l f.trim || is_other l u f.trim || is_early l u f.trim) ≡ false = (or_parts _ (list_any cuts (trims_before u l)) none.2).0 in
     let two : (too_long l f.trim || is_other l u f.trim) ≡ false = (or_parts _ (is_early l u f.trim) three).0 in
-    let parts : (not (contains (substreams l) f.substream) ≡ false) × (contains (streams_in u l) f.substream ≡ false) = or_parts (not (contains (substreams l) f.substream)) (contains (streams_in u l) f.substream) first.0 in
     record {
-      known = not-false (contains (substreams l) f.substream) parts.0;
-      new = rw (← unit_after-other l (AudioFrame f) refl) parts.1;
+      known = none.0;
+      new = rw (← unit_after-other l (AudioFrame f) refl) none.1;
       alike = rw (← unit_after-other l (AudioFrame f) refl) ((or_parts (too_long l f.trim) (is_other l u f.trim) two).1);
     }
 
@@ -214,24 +145,28 @@ lawful-step l (CodecConfig c) law h = lawful-descriptor l (CodecConfig c) 2 (ome
 lawful-step l (AudioElement e) law h = lawful-descriptor l (AudioElement e) 3 (omega arith) (element_before l h.early) refl (profiles-push_none l (AudioElement e) refl) (apart-element l e law.orderly h.late)
 lawful-step l (MixPresentation m) law h = lawful-descriptor l (MixPresentation m) 4 (omega arith) (mix_before l h.early) refl (profiles-push_none l (MixPresentation m) refl) (ap are_apart (substreams-push l (MixPresentation m) refl) ∙ law.orderly.apart)
 lawful-step l Delimiter law h =
-    let parts : (is_delimited (l ++ Delimiter ∷ []) ≡ true) × (list_any is_data l ≡ true → is_complete (open_unit l) l ≡ true) = delimiter_none l h.late in
-    record { balanced = balanced-delimiter l law.balanced (delimiter_before l law.balanced h.early) parts.0 parts.1; orderly = orderly-delimiter l law.balanced law.orderly parts.0; counted = counted-delimiter l parts.0 }
+    let with : is_delimited (l ++ Delimiter ∷ []) ≡ true = (delimiter_none l h.late).0 in
+    record { balanced = balanced-delimiter l law.balanced (delimiter_before l law.balanced h.early) with (complete_before l h.late); orderly = orderly-delimiter l law.balanced law.orderly with; counted = counted-delimiter l with }
 lawful-step l (ParameterBlock b) law h = record { balanced = balanced-block l b law.balanced (block_before l law.balanced h.early); orderly = orderly-block l b law.orderly; counted = counted-block l b }
 lawful-step l (AudioFrame f) law h =
-    let parts : FrameIsNew l f = frame_none l f h.late in
+    let parts : FrameIsNew l f = frame_is_new l f h.late in
     record { balanced = balanced-frame l f law.balanced (frame_before l law.balanced h.early) parts.known parts.new; orderly = orderly-frame l f law.balanced law.orderly parts.known parts.new; counted = counted-frame l f law.balanced parts.known parts.new }
 
-lawful-after : (l os : List Role) → Lawful l → AdmittedAfter l os → Lawful (l ++ os)
-lawful-after l [] law h = rw (append-nil) law
-lawful-after l (o ∷ os) law h = rw (← append_assoc l (o ∷ []) os) (lawful-after (l ++ o ∷ []) os (lawful-step l o law h.0) h.1)
+-- what each OBU without a fault keeps holds of an admitted list
+by_each : (P : List Role → Type 0) → ((l : List Role) (o : Role) → P l → HasNoFault l o → P (l ++ o ∷ [])) → (l os : List Role) → P l → AdmittedAfter l os → P (l ++ os)
+by_each P step l [] holds h = rw (append-nil) holds
+by_each P step l (o ∷ os) holds h = rw (← append_assoc l (o ∷ []) os) (by_each P step (l ++ o ∷ []) os (step l o holds h.0) h.1)
+
+pub by_all : (P : List Role → Type 0) → P [] → ((l : List Role) (o : Role) → P l → HasNoFault l o → P (l ++ o ∷ [])) → (l : List Role) → IsAdmitted l → P l
+unfolding IsAdmitted
+by_all P none step l h = by_each P step [] l none h
 
 lawful-nil : Lawful []
 unfolding profiles mixes substreams
 lawful-nil = record { balanced = balanced-none [] refl; orderly = orderly-none [] refl (λ _. refl) refl; counted = counted-none [] refl }
 
 lawful : (l : List Role) → IsAdmitted l → Lawful l
-unfolding IsAdmitted
-lawful l h = lawful-after [] l lawful-nil h
+lawful l h = by_all Lawful lawful-nil lawful-step l h
 
 pub balanced-admitted : (l : List Role) → IsAdmitted l → IsBalanced l
 balanced-admitted l h = (lawful l h).balanced
@@ -378,4 +313,4 @@ stands-frame a l s trim bytes st early late = record {
   ends = ends-other a.ends l (AudioFrame (frame_of s trim bytes)) st.ends refl refl (λ q. refl) (data_then l (AudioFrame (frame_of s trim bytes)) refl);
 } where
   parts : FrameIsNew l (frame_of s trim bytes)
-  parts = frame_none l (frame_of s trim bytes) late
+  parts = frame_is_new l (frame_of s trim bytes) late

@@ -1,17 +1,20 @@
 -- The open unit and what it holds, as OBUs come.
-use Rattle.std.proofs.Common.{◌≡◌, ℕ, ◌+◌, ◌-◌, ◌≤◌, ◌<◌, min, Bool, true, false, not, ◌&&◌, ◌||◌, cond, eqb, ltb, List, [], ◌∷◌, ◌++◌, map, refl, sym, ap, ap₂, ◌∙◌, inl, inr, append-nil, add-zero, subst, eqb-true, ne_eqb, true≢false, arith}
+use Rattle.std.proofs.Common.{◌≡◌, ℕ, ◌+◌, ◌≤◌, ◌<◌, min, Bool, true, false, not, ◌&&◌, ◌||◌, cond, eqb, List, [], ◌∷◌, ◌++◌, map, refl, sym, ap, ◌∙◌, inl, inr, append-nil, add-zero, subst, eqb-true, ne_eqb, true≢false, arith}
 use Rattle.std.specs.List.{flat_map, list_any, list_all}
-use Rattle.std.proofs.lemmas.Grind.{flat_map-append}
 use Rattle.std.proofs.lemmas.Bool.Decides.{nat_tests}
 use Rattle.std.proofs.lemmas.List.Folds.{list_any-append}
-use Rattle.std.proofs.lemmas.List.Sums.{sum_by-append}
-use Rattle.std.proofs.lemmas.Bool.{or_parts, or_right, or_left, or_cases, and_parts, cases_Bool, cases_eq}
-use Rattle.spec_sequence.specs.Role.{Role, Ignored, SequenceHeader, CodecConfig, AudioElement, MixPresentation, Delimiter, ParameterBlock, AudioFrame, ElementRole, MixRole, BlockRole, FrameRole}
+use Rattle.std.proofs.lemmas.Bool.{or_right, or_left, and_parts, cases_Bool, cases_eq}
+use Rattle.spec_sequence.specs.Role.{Role, Ignored, Delimiter, ParameterBlock, AudioFrame, ElementRole, MixRole, BlockRole, FrameRole}
 use Rattle.spec_sequence.specs.Descriptors.{profile_of, codec_of, element_of, mix_of, substreams_of, profiles, codecs, elements, mixes, substreams}
 use Rattle.spec_sequence.specs.Profile.{first_profile, fits_sub_mixes, fits, has_fit}
-use Rattle.spec_sequence.specs.Units.{contains, is_none_of, is_data, is_delimiter, stream_of, trim_of, least, is_frame_of, frames_of, delimiters, is_delimited, open_unit, unit_after, placed_after, placed, if_unit, in_units, in_unit, before_unit, streams_in, trims_in, trims_before, is_complete}
+use Rattle.spec_sequence.specs.Units.{contains, is_none_of, is_data, stream_of, least, frames_of, delimiters, is_delimited, open_unit, unit_after, placed, if_unit, in_units, in_unit, streams_in, is_complete}
 use Rattle.spec_sequence.specs.Rules.{lacks_descriptors}
-use Rattle.iamf_admission.proofs.Placing.{last_in, in_units-push, is_delimited-kept, is_delimited-first, is_delimited-none, delimiters-push, frames_of-push, unit_after-other, unit_after-delimiter}
+use Rattle.spec_sequence.proofs.Basics.{flat_map-push_none, any-push_none}
+use Rattle.spec_sequence.proofs.DescriptorLists.{profiles-push_none, elements-push_none, mixes-push_none, substreams-push}
+use Rattle.spec_sequence.proofs.Placing.{in_units-push, is_delimited-kept, delimiters-push, frames_of-push, unit_after-other, unit_after-delimiter}
+use Rattle.spec_sequence.proofs.UnitLists.{streams_in-push, in_units-none, streams_in-none, complete_is}
+use Rattle.spec_sequence.proofs.OpenUnits.{is_delimited-quiet, open_unit-quiet, open_unit-with, open_unit-without, frames_of-none, open_unit-none, delimiters-some, delimiters-none, open_unit-delimiter, open_unit-ended}
+use Rattle.iamf_admission.proofs.Pigeons.{all_at}
 
 -- where each number is u, or u + 1 if it was seen, the least is u + 1 only if all were
 least_even-step : (u : ℕ) (x y : ℕ) (b all : Bool) → x ≡ u + cond b 1 0 → y ≡ cond all (u + 1) u → min x y ≡ cond (b && all) (u + 1) u
@@ -50,41 +53,6 @@ pub later : (l : List Role) → IsBalanced l → (test : ℕ → Bool) → ((u :
 unfolding in_units
 later l balanced test none = balanced.within test (λ _. false) none ∙ no_units (placed l)
 
-pub substreams-push : (l : List Role) (o : Role) → substreams_of o ≡ [] → substreams (l ++ o ∷ []) ≡ substreams l
-unfolding substreams
-substreams-push l o h = rw (flat_map-append, h) (append-nil _)
-
-map_same : (f g : ℕ → ℕ) (ss : List ℕ) → ((s : ℕ) → f s ≡ g s) → map f ss ≡ map g ss
-map_same f g [] e = refl
-map_same f g (s ∷ ss) e = ap₂ (λ (x : ℕ) (xs : List ℕ). x ∷ xs) (e s) (map_same f g ss e)
-
-pub is_delimited-quiet : (l : List Role) (o : Role) → is_delimiter o ≡ false → is_delimited (l ++ o ∷ []) ≡ is_delimited l
-is_delimited-quiet l o other = elim (cases_Bool (list_any is_data l)) [
-  | inl has ↦ is_delimited-kept l (o ∷ []) has
-  | inr none ↦ rw (is_delimited-first l o none, other, is_delimited-none l none) refl
-]
-
--- an OBU that is no delimiter and no frame leaves the open unit
-pub open_unit-quiet : (l : List Role) (o : Role) → is_delimiter o ≡ false → stream_of o ≡ [] → substreams_of o ≡ [] → open_unit (l ++ o ∷ []) ≡ open_unit l
-unfolding open_unit
-open_unit-quiet l o other still same =
-    rw (is_delimited-quiet l o other, delimiters-push l o, other, add-zero, substreams-push l o same)
-    (ap (λ ns. cond (is_delimited l) (delimiters l - 1) (least ns))
-    (map_same (frames_of (l ++ o ∷ [])) (frames_of l) (substreams l) (λ s. frames_of-push l o s ∙ rw still (add-zero (frames_of l s)))))
-
--- what the last OBU adds to a unit
-pub streams_in-push : (u : ℕ) (l : List Role) (o : Role) → streams_in u (l ++ o ∷ []) ≡ streams_in u l ++ flat_map stream_of (last_in (λ v. eqb v u) l o)
-unfolding streams_in in_unit
-streams_in-push u l o = rw (in_units-push (λ v. eqb v u) l o) (flat_map-append stream_of (in_units (λ v. eqb v u) l) (last_in (λ v. eqb v u) l o))
-
-pub trims_in-push : (u : ℕ) (l : List Role) (o : Role) → trims_in u (l ++ o ∷ []) ≡ trims_in u l ++ flat_map trim_of (last_in (λ v. eqb v u) l o)
-unfolding trims_in in_unit
-trims_in-push u l o = rw (in_units-push (λ v. eqb v u) l o) (flat_map-append trim_of (in_units (λ v. eqb v u) l) (last_in (λ v. eqb v u) l o))
-
-pub trims_before-push : (u : ℕ) (l : List Role) (o : Role) → trims_before u (l ++ o ∷ []) ≡ trims_before u l ++ flat_map trim_of (last_in (λ v. ltb v u) l o)
-unfolding trims_before before_unit
-trims_before-push u l o = rw (in_units-push (λ v. ltb v u) l o) (flat_map-append trim_of (in_units (λ v. ltb v u) l) (last_in (λ v. ltb v u) l o))
-
 -- a frame comes into the open unit
 eqb_self : (u : ℕ) → eqb u u ≡ true
 eqb_self u = grind (arith, nat_tests)
@@ -106,14 +74,6 @@ counts-frame l f balanced new r known =
       one false true h = omega arith
       one false false h = omega arith
 
-pub open_unit-with : (l : List Role) → is_delimited l ≡ true → open_unit l ≡ delimiters l - 1
-unfolding open_unit
-open_unit-with l h = rw h refl
-
-pub open_unit-without : (l : List Role) → is_delimited l ≡ false → open_unit l ≡ least (map (frames_of l) (substreams l))
-unfolding open_unit
-open_unit-without l h = rw h refl
-
 pub open_unit-frame : (l : List Role) (f : FrameRole) → IsBalanced l → is_none_of (substreams l) ≡ false → contains (streams_in (open_unit l) l) f.substream ≡ false
     → open_unit (l ++ AudioFrame f ∷ []) ≡ cond (is_full l f.substream (streams_in (open_unit l) l)) (open_unit l + 1) (open_unit l)
 open_unit-frame l f balanced some new = elim (cases_Bool (is_delimited l)) [
@@ -126,10 +86,6 @@ open_unit-frame l f balanced some new = elim (cases_Bool (is_delimited l)) [
 pub streams_in-later : (l : List Role) (u : ℕ) → IsBalanced l → open_unit l < u → streams_in u l ≡ []
 unfolding streams_in in_unit
 streams_in-later l u balanced above = rw (later l balanced (λ v. eqb v u) (λ v h. ne_eqb v u (λ e. omega arith))) refl
-
-pub trims_in-later : (l : List Role) (u : ℕ) → IsBalanced l → open_unit l < u → trims_in u l ≡ []
-unfolding trims_in in_unit
-trims_in-later l u balanced above = rw (later l balanced (λ v. eqb v u) (λ v h. ne_eqb v u (λ e. omega arith))) refl
 
 pub in_unit-later : (l : List Role) (u : ℕ) → IsBalanced l → open_unit l < u → in_unit u l ≡ []
 unfolding in_unit
@@ -157,34 +113,9 @@ pub record IsNoDescriptor (o : Role) : Type 0 where
   pub mix : mix_of o ≡ []
   pub streams : substreams_of o ≡ []
 
-pub flat_map-push_none : {X : Type 0} (f : Role → List X) (l : List Role) (o : Role) → f o ≡ [] → flat_map f (l ++ o ∷ []) ≡ flat_map f l
-flat_map-push_none f l o none = rw (flat_map-append f l (o ∷ []), none) (append-nil (flat_map f l))
-
-pub any-push_none : (p : Role → Bool) (l : List Role) (o : Role) → p o ≡ false → list_any p (l ++ o ∷ []) ≡ list_any p l
-any-push_none p l o none = rw (list_any-append, none) (one (list_any p l)) where
-  one : (b : Bool) → (b || (false || false)) ≡ b
-  one true = refl
-  one false = refl
-
 lacks-push : (l : List Role) (o : Role) → IsNoDescriptor o → lacks_descriptors (l ++ o ∷ []) ≡ lacks_descriptors l
 unfolding lacks_descriptors profiles codecs elements mixes
 lacks-push l o none = rw (flat_map-push_none profile_of l o none.profile, flat_map-push_none codec_of l o none.codec, flat_map-push_none element_of l o none.element, flat_map-push_none mix_of l o none.mix) refl
-
-pub profiles-push_none : (l : List Role) (o : Role) → profile_of o ≡ [] → profiles (l ++ o ∷ []) ≡ profiles l
-unfolding profiles
-profiles-push_none l o none = flat_map-push_none profile_of l o none
-
-pub codecs-push_none : (l : List Role) (o : Role) → codec_of o ≡ [] → codecs (l ++ o ∷ []) ≡ codecs l
-unfolding codecs
-codecs-push_none l o none = flat_map-push_none codec_of l o none
-
-pub elements-push_none : (l : List Role) (o : Role) → element_of o ≡ [] → elements (l ++ o ∷ []) ≡ elements l
-unfolding elements
-elements-push_none l o none = flat_map-push_none element_of l o none
-
-pub mixes-push_none : (l : List Role) (o : Role) → mix_of o ≡ [] → mixes (l ++ o ∷ []) ≡ mixes l
-unfolding mixes
-mixes-push_none l o none = flat_map-push_none mix_of l o none
 
 -- whether one of the mixes fits
 abbrev pub fit_in : List ℕ → List ElementRole → List MixRole → Bool
@@ -210,13 +141,6 @@ closed-push l o u same before = rw (streams_in-push u l o, substreams-push l o s
   one true = rw (append-nil) refl
   one false = rw (append-nil) refl
 
-all_at : (p : ℕ → Bool) (xs : List ℕ) (x : ℕ) → list_all p xs ≡ true → contains xs x ≡ true → p x ≡ true
-all_at p [] x all there = absurd (grind arith)
-all_at p (y ∷ ys) x all there = elim (or_cases (eqb y x) (contains ys x) there) [
-  | inl same ↦ ap p (sym (eqb-true y x same)) ∙ (and_parts (p y) (list_all p ys) all).0
-  | inr rest ↦ all_at p ys x (and_parts (p y) (list_all p ys) all).1 rest
-]
-
 started-push : (l : List Role) (o : Role) → IsNoDescriptor o → (lacks_descriptors l ≡ false) × (has_fit l ≡ true) → list_any is_data (l ++ o ∷ []) ≡ true → (lacks_descriptors (l ++ o ∷ []) ≡ false) × (has_fit (l ++ o ∷ []) ≡ true)
 started-push l o none whole h = (lacks-push l o none ∙ whole.0, fits-push l o none.profile none.element none.mix ∙ whole.1)
 
@@ -238,10 +162,6 @@ some_streams l s h = one (substreams l) h where
   one : (ss : List ℕ) → contains ss s ≡ true → is_none_of ss ≡ false
   one [] h = absurd (grind arith)
   one (x ∷ xs) h = refl
-
-pub complete_is : (u : ℕ) (l : List Role) → is_complete u l ≡ list_all (contains (streams_in u l)) (substreams l)
-unfolding is_complete
-complete_is u l = refl
 
 -- a frame
 pub balanced-frame : (l : List Role) (f : FrameRole) → IsBalanced l → (lacks_descriptors l ≡ false) × (has_fit l ≡ true) → contains (substreams l) f.substream ≡ true → contains (streams_in (open_unit l) l) f.substream ≡ false → IsBalanced (l ++ AudioFrame f ∷ [])
@@ -288,44 +208,6 @@ balanced-frame l f balanced whole of_l new = elim (cases_Bool (is_full l f.subst
   completes : list_all (contains (seen ++ f.substream ∷ [])) (substreams l) ≡ true → is_complete (open_unit l) (l ++ o ∷ []) ≡ true
   completes all = complete_is (open_unit l) (l ++ o ∷ []) ∙ rw (streams_in-frame l f, substreams-push l o refl) all
 
--- a list without a data OBU
-pub no_placed : (l os : List Role) → list_any is_data os ≡ false → placed_after l os ≡ []
-no_placed l [] none = refl
-no_placed l (x ∷ xs) none = let parts : (is_data x ≡ false) × (list_any is_data xs ≡ false) = or_parts (is_data x) (list_any is_data xs) none in
-    rw (parts.0, no_placed (l ++ x ∷ []) xs parts.1) refl
-
-pub in_units-none : (test : ℕ → Bool) (l : List Role) → list_any is_data l ≡ false → in_units test l ≡ []
-unfolding in_units placed
-in_units-none test l none = rw (no_placed [] l none) refl
-
-data_frame : (s : ℕ) (o : Role) → is_data o ≡ false → is_frame_of s o ≡ false
-data_frame s Delimiter h = absurd (grind arith)
-data_frame s (ParameterBlock b) h = absurd (grind arith)
-data_frame s (AudioFrame f) h = absurd (grind arith)
-data_frame s Ignored h = refl
-data_frame s (SequenceHeader p) h = refl
-data_frame s (CodecConfig c) h = refl
-data_frame s (AudioElement e) h = refl
-data_frame s (MixPresentation m) h = refl
-
-pub frames_of-none : (l : List Role) (s : ℕ) → list_any is_data l ≡ false → frames_of l s ≡ 0
-unfolding frames_of
-frames_of-none [] s none = refl
-frames_of-none (x ∷ xs) s none = let parts : (is_data x ≡ false) × (list_any is_data xs ≡ false) = or_parts (is_data x) (list_any is_data xs) none in
-    rw (data_frame s x parts.0, frames_of-none xs s parts.1) refl
-
-least-zeros : (f : ℕ → ℕ) (ss : List ℕ) → ((s : ℕ) → f s ≡ 0) → least (map f ss) ≡ 0
-least-zeros f [] zeros = refl
-least-zeros f (s ∷ []) zeros = zeros s
-least-zeros f (s ∷ r ∷ rs) zeros = rw (zeros s) (omega arith)
-
-pub open_unit-none : (l : List Role) → list_any is_data l ≡ false → open_unit l ≡ 0
-open_unit-none l none = open_unit-without l (is_delimited-none l none) ∙ least-zeros (frames_of l) (substreams l) (λ s. frames_of-none l s none)
-
-pub streams_in-none : (u : ℕ) (l : List Role) → list_any is_data l ≡ false → streams_in u l ≡ []
-unfolding streams_in in_unit
-streams_in-none u l none = rw (in_units-none (λ v. eqb v u) l none) refl
-
 pub balanced-none : (l : List Role) → list_any is_data l ≡ false → IsBalanced l
 balanced-none l none = record {
   started = λ has. absurd (true≢false (sym has ∙ none));
@@ -348,34 +230,6 @@ balanced-ignored l balanced =
     } where
       still_complete : (u : ℕ) → is_complete u (l ++ Ignored ∷ []) ≡ is_complete u l
       still_complete u = complete_is u (l ++ Ignored ∷ []) ∙ rw (streams_in-push u l Ignored, append-nil, substreams-push l Ignored refl) (sym (complete_is u l))
-
--- A delimiter: the first data OBU, or one after a complete unit.
-delimiters-some : (l : List Role) → is_delimited l ≡ true → 0 < delimiters l
-unfolding is_delimited delimiters
-delimiters-some [] h = absurd (grind arith)
-delimiters-some (Delimiter ∷ xs) h = rw (sum_by-append (λ (x : Role). cond (is_delimiter x) 1 0) (Delimiter ∷ []) xs) (omega arith)
-delimiters-some (ParameterBlock b ∷ xs) h = absurd (grind arith)
-delimiters-some (AudioFrame f ∷ xs) h = absurd (grind arith)
-delimiters-some (Ignored ∷ xs) h = delimiters-some xs h
-delimiters-some (SequenceHeader p ∷ xs) h = delimiters-some xs h
-delimiters-some (CodecConfig c ∷ xs) h = delimiters-some xs h
-delimiters-some (AudioElement e ∷ xs) h = delimiters-some xs h
-delimiters-some (MixPresentation m ∷ xs) h = delimiters-some xs h
-
-pub delimiters-none : (l : List Role) → list_any is_data l ≡ false → delimiters l ≡ 0
-unfolding delimiters
-delimiters-none [] none = refl
-delimiters-none (x ∷ xs) none = let parts : (is_data x ≡ false) × (list_any is_data xs ≡ false) = or_parts (is_data x) (list_any is_data xs) none in
-    rw (data_delimiter x parts.0, delimiters-none xs parts.1) refl where
-      data_delimiter : (o : Role) → is_data o ≡ false → is_delimiter o ≡ false
-      data_delimiter Delimiter h = absurd (grind arith)
-      data_delimiter _ h = refl
-
-pub open_unit-delimiter : (l : List Role) → is_delimited (l ++ Delimiter ∷ []) ≡ true → open_unit (l ++ Delimiter ∷ []) ≡ delimiters l
-open_unit-delimiter l h = open_unit-with (l ++ Delimiter ∷ []) h ∙ rw (delimiters-push l Delimiter) (omega arith)
-
-pub open_unit-ended : (l : List Role) → is_delimited l ≡ true → open_unit l + 1 ≡ delimiters l
-open_unit-ended l with = rw (open_unit-with l with) (omega (arith, delimiters-some l with))
 
 -- a delimiter's unit has no frame yet
 pub streams_in-fresh : (l : List Role) → IsBalanced l → is_delimited (l ++ Delimiter ∷ []) ≡ true → streams_in (open_unit (l ++ Delimiter ∷ [])) (l ++ Delimiter ∷ []) ≡ []

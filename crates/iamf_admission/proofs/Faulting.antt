@@ -6,15 +6,17 @@ use Rattle.std.specs.Option.{option_map, option_map_or}
 use Rattle.std.proofs.lemmas.Bool.{cases_eq, and_right}
 use Rattle.spec_blocks.specs.Shape.{Shape, MixGain, Demixing, ReconGain, shape_of}
 use Rattle.spec_sequence.specs.declared.fault.Fault.{Fault}
-use Rattle.spec_sequence.specs.declared.fault.Fault.TheVariants.{Order, Repeated, Unknown, Incomplete, NoMixFits, SecondSequence, UnitFrame, UnitShort, BlockTime}
+use Rattle.spec_sequence.specs.declared.fault.Fault.TheVariants.{Order, Repeated, Unknown, Incomplete, NoMixFits, SecondSequence, UnitFrame, UnitShort}
 use Rattle.spec_sequence.specs.declared.fault.Fault.TheVariants as fault
 use Rattle.spec_sequence.specs.Content as kind
 use Rattle.spec_sequence.specs.Role as role
-use Rattle.spec_sequence.specs.Role.{Role, Ignored, SequenceHeader, CodecConfig, AudioElement, MixPresentation, Delimiter, ParameterBlock, AudioFrame, ElementRole, MixRole, BlockRole, FrameRole}
+use Rattle.spec_sequence.specs.Role.{Role, Ignored, SequenceHeader, CodecConfig, AudioElement, MixPresentation, Delimiter, ParameterBlock, AudioFrame, BlockRole, FrameRole}
 use Rattle.spec_sequence.specs.Descriptors.{profiles, codecs, elements, substreams, mixes, frame_length, first_length, definitions, channels_in, channels_of}
 use Rattle.spec_sequence.specs.Profile.{has_fit}
 use Rattle.spec_sequence.specs.Units.{contains, is_none_of, is_data, is_delimiter, is_delimited, open_unit, unit_after, in_units, in_unit, streams_in, trims_in, is_complete, block_end}
-use Rattle.spec_sequence.specs.Rules.{when, first_of, repeated, unknown, is_out_of_order, lacks_descriptors, element_ids, start_tests, same_trim, has_bad_trim, rate_of, is_late, codec_tests, has_short_unit, fault_before, fault_after, end_fault}
+use Rattle.spec_sequence.specs.Rules.{when, first_of, unknown, is_out_of_order, lacks_descriptors, element_ids, start_tests, same_trim, has_bad_trim, rate_of, is_late, codec_tests, has_short_unit, fault_before, fault_after, end_fault}
+use Rattle.spec_sequence.proofs.Placing.{is_delimited-first, is_delimited-kept, unit_after-other, unit_after-delimiter}
+use Rattle.spec_sequence.proofs.OpenUnits.{open_unit-with}
 use Rattle.iamf_admission.specs.declared.roles.CodecRole.{CodecRole}
 use Rattle.iamf_admission.specs.declared.roles.Trim.{Trim}
 use Rattle.iamf_admission.specs.declared.roles.Known.{Known}
@@ -23,12 +25,11 @@ use Rattle.iamf_admission.specs.declared.descriptors.Descriptors.{Descriptors}
 use Rattle.iamf_admission.specs.declared.open_unit.OpenUnit.{OpenUnit}
 use Rattle.iamf_admission.specs.RoleViews.{view_trim, Knows}
 use Rattle.iamf_admission.specs.Ends.{end_of}
-use Rattle.iamf_admission.specs.DescriptorSteps.{profile_list, codec_list, length_in, length_of, rate_in, out_of_order, header_fault_of, codec_fault_of, unknown_codec, or_else, element_fault_of, mix_fault_of}
+use Rattle.iamf_admission.specs.DescriptorSteps.{profile_list, codec_list, length_in, length_of, rate_in, out_of_order, header_fault_of, codec_fault_of, or_else, mix_fault_of}
 use Rattle.iamf_admission.specs.UnitSteps.{differs, bad_trim, is_full, at_delimiter, delimiter_fault_of, end_fault_of, is_marked}
 use Rattle.iamf_admission.specs.AdmissionSteps.{start_fault_of, is_late_of, frame_fault_of, block_fault_of}
-use Rattle.iamf_admission.specs.Standing.{mix_ids, is_timed, KeepsDescriptors, AreTrims, KeepsUnit, KeepsEnds, element_tests, mix_tests}
-use Rattle.iamf_admission.proofs.Balance.{IsBalanced, later, open_unit-with}
-use Rattle.iamf_admission.proofs.Placing.{is_delimited-first, is_delimited-kept, unit_after-other, unit_after-delimiter}
+use Rattle.iamf_admission.specs.Standing.{mix_ids, is_timed, KeepsDescriptors, AreTrims, KeepsUnit, KeepsEnds, mix_tests}
+use Rattle.iamf_admission.proofs.Balance.{IsBalanced, later}
 use Rattle.iamf_admission.proofs.Orderly.{IsOrderly, complete_by_count}
 
 -- ---- tables
@@ -115,20 +116,6 @@ header_fault_is d l k = ap (λ b. cond b (Some SecondSequence) None) (some_profi
 pub codec_fault_is : (d : Descriptors) (l : List Role) (c : role.CodecRole) → KeepsDescriptors d l → codec_fault_of d c.id ≡ fault_after l (CodecConfig c)
 unfolding fault_after
 codec_fault_is d l c k = ap (λ b. cond b (Some (Repeated c.id)) None) (some_codec d.codec ∙ ap (λ (cs : List role.CodecRole). not (is_none_of cs)) k.codec) ∙ sym (first_when (not (is_none_of (codecs l))) (Repeated c.id) [])
-
-unknown_is : (c : Option CodecRole) (id : ℕ) → unknown_codec c id ≡ unknown (map (λ (x : role.CodecRole). x.id) (codec_list c)) (id ∷ [])
-unknown_is None id = refl
-unknown_is (Some c) id = one (eqb c.id id) where
-  one : (b : Bool) → cond b None (Some (Unknown id)) ≡ cond (b || false) None (Some (Unknown id))
-  one true = refl
-  one false = refl
-
-pub element_fault_is : (d : Descriptors) (l : List Role) (id codec : ℕ) (ids : List ℕ) → KeepsDescriptors d l → element_fault_of d id codec ids ≡ first_of (element_tests l id codec ids)
-element_fault_is d l id codec ids k =
-    rw (first_else, first_else, first_else, or_else-none, k.elements_are, k.substreams_are, unknown_is d.codec codec, k.codec) (one (contains (element_ids l) id)) where
-      one : (b : Bool) → cond b (Some (Repeated id)) (or_else (repeated (substreams l) ids) (unknown (map (λ c. c.id) (codecs l)) (codec ∷ []))) ≡ or_else (cond b (Some (Repeated id)) None) (or_else (repeated (substreams l) ids) (unknown (map (λ c. c.id) (codecs l)) (codec ∷ [])))
-      one true = refl
-      one false = refl
 
 pub mix_fault_is : (d : Descriptors) (l : List Role) (id : ℕ) (ids : List ℕ) → KeepsDescriptors d l → mix_fault_of d id ids ≡ first_of (mix_tests l id ids)
 mix_fault_is d l id ids k =

@@ -1,6 +1,5 @@
 pub mod Pigeons
 pub mod Pairs
-pub mod Placing
 pub mod Balance
 pub mod Orderly
 pub mod Faulting

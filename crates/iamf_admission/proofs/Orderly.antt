@@ -6,9 +6,12 @@ use Rattle.std.proofs.lemmas.List.Folds.{list_all-append}
 use Rattle.spec_sequence.specs.Role.{Role, Ignored, Delimiter, ParameterBlock, AudioFrame, BlockRole, FrameRole}
 use Rattle.spec_sequence.specs.Descriptors.{profiles, mixes, substreams}
 use Rattle.spec_sequence.specs.Units.{contains, is_none_of, is_data, is_delimited, open_unit, unit_after, stream_of, streams_in, is_complete}
+use Rattle.spec_sequence.proofs.Placing.{unit_after-other}
+use Rattle.spec_sequence.proofs.DescriptorLists.{profiles-push_none, mixes-push_none, substreams-push}
+use Rattle.spec_sequence.proofs.UnitLists.{streams_in-push, streams_in-none, complete_is}
+use Rattle.spec_sequence.proofs.OpenUnits.{open_unit-quiet}
 use Rattle.iamf_admission.proofs.Pigeons.{are_apart, all_by_count, apart_push}
-use Rattle.iamf_admission.proofs.Placing.{unit_after-other}
-use Rattle.iamf_admission.proofs.Balance.{IsBalanced, IsNoDescriptor, is_full, profiles-push_none, mixes-push_none, substreams-push, streams_in-push, streams_in-frame, streams_in-next, streams_in-none, streams_in-fresh, open_unit-quiet, open_unit-frame, some_streams, complete_is}
+use Rattle.iamf_admission.proofs.Balance.{IsBalanced, IsNoDescriptor, is_full, streams_in-frame, streams_in-next, streams_in-fresh, open_unit-frame, some_streams}
 
 pub record IsOrderly (l : List Role) : Type 0 where
   pub headed : is_none_of (profiles l) ≡ true → mixes l ≡ []

@@ -1,23 +1,18 @@
 -- Lists of pairs beside maps.
-use Rattle.std.proofs.Common.{◌≡◌, ℕ, ◌+◌, ◌<◌, ◌≤◌, Bool, true, false, ◌||◌, cond, eqb, List, [], ◌∷◌, ◌++◌, length, get_or, drop, Option, Some, None, refl, sym, ap, ◌∙◌, append_assoc, add-one, drop-cons, length-drop, eqb-true, arith}
+use Rattle.std.proofs.Common.{◌≡◌, ℕ, ◌≤◌, Bool, true, false, cond, eqb, List, [], ◌∷◌, ◌++◌, length, drop, Option, Some, None, refl, sym, ap, ◌∙◌, length-drop, eqb-true, arith}
 use Rattle.std.specs.Prelude.{min}
 use Rattle.std.specs.List.{zip}
 use Rattle.std.specs.Option.{unwrap_or, option_or}
 use Rattle.std.specs.Ordering.{nat_cmp}
 use Rattle.std.specs.Map.{lookup}
 use Rattle.std.specs.BTreeMap.{BTreeMap, get, is_at, Updates}
-use Rattle.std.proofs.lemmas.Bool.Decides.{nat_tests}
-use Rattle.std.proofs.lemmas.List.Folds.{list_any-append}
 use Rattle.spec_sequence.specs.Descriptors.{channels_in}
-use Rattle.spec_sequence.specs.Units.{contains}
+use Rattle.spec_sequence.proofs.Basics.{flip}
 use Rattle.iamf_admission.specs.Ends.{end_of, SetsEnd}
 use Rattle.iamf_admission.specs.IdView.{AreCounted}
 
 pub is_at_number : (a q : ℕ) → is_at (nat_cmp a) q ≡ eqb a q
 is_at_number a q = grind arith
-
-flip : (a b : ℕ) → eqb a b ≡ eqb b a
-flip a b = grind (arith, nat_tests)
 
 -- ---- ends
 
@@ -71,15 +66,6 @@ counted_old ps counts id count are there q = are q ∙ one (eqb id q) refl (chan
     one false other None e = refl
     one true same None e = absurd (there (ap (channels_in ps) (eqb-true id q same) ∙ e))
 
-pub zip_step : (ps : List (ℕ × ℕ)) (ids counts : List ℕ) (i x y : ℕ) → i < length ids → i < length counts → x ≡ get_or ids i x → y ≡ get_or counts i y
-    → (ps ++ (x, y) ∷ []) ++ zip (drop (i + 1) ids) (drop (i + 1) counts) ≡ ps ++ zip (drop i ids) (drop i counts)
-zip_step ps ids counts i x y p q is_x is_y =
-    append_assoc ps ((x, y) ∷ []) (zip (drop (i + 1) ids) (drop (i + 1) counts))
-    ∙ ap (λ (rest : List (ℕ × ℕ)). ps ++ rest) (sym (ap (λ (xs : List ℕ). zip xs (drop i counts)) (first ids x p is_x) ∙ ap (λ (ys : List ℕ). zip (x ∷ drop (i + 1) ids) ys) (first counts y q is_y)))
-  where
-    first : (xs : List ℕ) (z : ℕ) → i < length xs → z ≡ get_or xs i z → drop i xs ≡ z ∷ drop (i + 1) xs
-    first xs z within is = rw (add-one, drop-cons xs i z, ← is) refl
-
 pub zip_end : (ids counts : List ℕ) (i : ℕ) → min (length ids) (length counts) ≤ i → zip (drop i ids) (drop i counts) ≡ []
 zip_end ids counts i all = ended (drop i ids) (drop i counts) (omega (arith, length-drop i ids, length-drop i counts))
   where
@@ -87,11 +73,3 @@ zip_end ids counts i all = ended (drop i ids) (drop i counts) (omega (arith, len
     ended [] ys e = refl
     ended (x ∷ xs) [] e = refl
     ended (x ∷ xs) (y ∷ ys) e = absurd (omega arith)
-
--- ---- the first repeated id
-
-pub again_is : (known before : List ℕ) (id : ℕ) → contains known id ≡ true → contains (known ++ before) id ≡ true
-again_is known before id h = list_any-append (λ y. eqb y id) known before ∙ ap (λ b. b || contains before id) h
-
-pub again_before : (known before : List ℕ) (id : ℕ) → contains known id ≡ false → contains (known ++ before) id ≡ contains before id
-again_before known before id h = list_any-append (λ y. eqb y id) known before ∙ ap (λ b. b || contains before id) h

@@ -2,16 +2,22 @@
 use Rattle.std.proofs.Common.{◌≡◌, ℕ, ◌+◌, ◌≤◌, Bool, true, false, not, ◌&&◌, ◌||◌, cond, eqb, List, [], ◌∷◌, ◌++◌, length, refl, sym, ap, ◌∙◌, inl, inr, append_assoc, append-nil, eqb-true, eq-eqb, ne_eqb, true≢false, arith}
 use Rattle.std.specs.Prelude.{None}
 use Rattle.std.specs.List.{list_all}
-use Rattle.std.proofs.lemmas.Bool.{or_parts, or_right, or_left, and_parts, cases_Bool}
-use Rattle.std.proofs.lemmas.Bool.Decides.{nat_tests}
-use Rattle.std.proofs.lemmas.List.Folds.{list_any-append}
+use Rattle.std.proofs.lemmas.Bool.{or_parts, or_right, or_left, and_parts, cases_Bool, not-true, or_cases}
 use Rattle.spec_sequence.specs.Units.{contains}
 use Rattle.spec_sequence.specs.Rules.{repeated}
+use Rattle.spec_sequence.proofs.Basics.{flip, any-push}
 
 -- no id stands there twice
 abbrev pub are_apart : List ℕ → Bool
 are_apart [] = true
 are_apart (x ∷ xs) = not (contains xs x) && are_apart xs
+
+pub all_at : (p : ℕ → Bool) (xs : List ℕ) (x : ℕ) → list_all p xs ≡ true → contains xs x ≡ true → p x ≡ true
+all_at p [] x all there = absurd cc
+all_at p (y ∷ ys) x all there = elim (or_cases (eqb y x) (contains ys x) there) [
+  | inl same ↦ ap p (sym (eqb-true y x same)) ∙ (and_parts (p y) (list_all p ys) all).0
+  | inr rest ↦ all_at p ys x (and_parts (p y) (list_all p ys) all).1 rest
+]
 
 -- without the first x
 abbrev without : ℕ → List ℕ → List ℕ
@@ -41,14 +47,8 @@ all-without x (z ∷ zs) ys new h =
     let parts : (contains ys z ≡ true) × (list_all (contains ys) zs ≡ true) = and_parts (contains ys z) (list_all (contains ys) zs) h in
     rw (without-keeps x z ys first.0 parts.0, all-without x zs ys first.1 parts.1) refl
 
-apart_parts : (x : ℕ) (xs : List ℕ) → are_apart (x ∷ xs) ≡ true → (contains xs x ≡ false) × (are_apart xs ≡ true)
-apart_parts x xs h =
-    let parts : (not (contains xs x) ≡ true) × (are_apart xs ≡ true) = and_parts (not (contains xs x)) (are_apart xs) h in
-    (not_true (contains xs x) parts.0, parts.1)
-  where
-    not_true : (b : Bool) → not b ≡ true → b ≡ false
-    not_true true h = absurd (grind arith)
-    not_true false h = refl
+pub apart_parts : (x : ℕ) (xs : List ℕ) → are_apart (x ∷ xs) ≡ true → (contains xs x ≡ false) × (are_apart xs ≡ true)
+apart_parts x xs h = let parts = and_parts (not (contains xs x)) (are_apart xs) h in (not-true (contains xs x) parts.0, parts.1)
 
 -- distinct ids that all stand in another list are at most as many
 pub fewer : (xs ys : List ℕ) → are_apart xs ≡ true → list_all (contains ys) xs ≡ true → length xs ≤ length ys
@@ -85,16 +85,7 @@ all_by_count ss seen apart seen_apart known = elim (cases_Bool (list_all (contai
 -- ---- one more id, and ids of which none is repeated
 
 apart_push-step : (x y : ℕ) (xs : List ℕ) → (contains xs y || eqb y x) ≡ false → are_apart (xs ++ x ∷ []) ≡ true → are_apart (y ∷ xs ++ x ∷ []) ≡ true
-apart_push-step x y xs new rest = rw (list_any-append (λ z. eqb z y) xs (x ∷ []), one, rest) refl where
-  flip : eqb x y ≡ eqb y x
-  flip = grind (arith, nat_tests)
-
-  one : (contains xs y || (eqb x y || false)) ≡ false
-  one = rw flip (two (contains xs y) (eqb y x) new) where
-    two : (a b : Bool) → (a || b) ≡ false → (a || (b || false)) ≡ false
-    two true b h = h
-    two false true h = h
-    two false false h = refl
+apart_push-step x y xs new rest = rw (any-push (λ z. eqb z y) xs x, flip x y, new, rest) refl
 
 pub apart_push : (xs : List ℕ) (x : ℕ) → are_apart xs ≡ true → contains xs x ≡ false → are_apart (xs ++ x ∷ []) ≡ true
 apart_push [] x apart new = refl

@@ -1,58 +1,27 @@
 -- What is kept of the descriptors goes on as OBUs come.
 use Rattle.std.proofs.Common.{◌≡◌, ℕ, ◌<◌, max, Bool, true, false, ◌&&◌, ◌||◌, cond, eqb, ltb, List, [], ◌∷◌, ◌++◌, length, map, refl, sym, ap, ◌∙◌, append-nil, le-ltb, ne_eqb, eqb-true, eq-eqb, true≢false, arith}
-use Rattle.std.specs.Prelude.{Option, Some, None, sum, fold}
+use Rattle.std.specs.Prelude.{Option, Some, None, sum}
 use Rattle.std.specs.List.{flat_map, list_any, zip}
 use Rattle.std.specs.Option.{option_map}
 use Rattle.std.proofs.lemmas.Bool.{or_parts}
 use Rattle.std.proofs.lemmas.Bool.Decides.{nat_tests}
-use Rattle.std.proofs.lemmas.Grind.{flat_map-append}
 use Rattle.std.proofs.lemmas.List.Folds.{list_any-append}
+use Rattle.std.proofs.lemmas.List.{map_push}
 use Rattle.spec_sequence.specs.Role as role
-use Rattle.spec_sequence.specs.Role.{Role, Ignored, SequenceHeader, CodecConfig, AudioElement, MixPresentation, Delimiter, ParameterBlock, AudioFrame, ElementRole, MixRole}
-use Rattle.spec_blocks.specs.Shape.{with_definition}
-use Rattle.spec_sequence.specs.Descriptors.{rank, profile_of, codec_of, element_of, mix_of, substreams_of, definitions_of, pairs_of, pairs_in, profiles, codecs, elements, mixes, substreams, first_length, frame_length, definitions, channels_in}
+use Rattle.spec_sequence.specs.Role.{Role, Ignored, SequenceHeader, CodecConfig, AudioElement, MixPresentation, ElementRole, MixRole}
+use Rattle.spec_sequence.specs.Descriptors.{rank, pairs_of, pairs_in, profiles, codecs, elements, mixes, channels_in}
 use Rattle.spec_sequence.specs.Profile.{first_profile, channels_of_element, plus, channels_of_sub_mix, fits_channels, fits_sub_mixes, has_fit}
-use Rattle.spec_sequence.specs.Units.{contains, is_none_of}
+use Rattle.spec_sequence.specs.Units.{contains}
 use Rattle.spec_sequence.specs.Rules.{element_ids, is_out_of_order}
+use Rattle.spec_sequence.proofs.Basics.{or_false, flat_map-push, any-push, flat_map-push_none, any-push_none}
+use Rattle.spec_sequence.proofs.DescriptorLists.{profiles-push, codecs-push, elements-push, mixes-push, substreams-more, profiles-push_none, codecs-push_none, elements-push_none, mixes-push_none, substreams-push}
+use Rattle.spec_sequence.proofs.Ranks.{order_parts, rank-small, no_mix}
 use Rattle.iamf_admission.specs.declared.roles.CodecRole.{CodecRole}
 use Rattle.iamf_admission.specs.declared.descriptors.Descriptors.{Descriptors}
 use Rattle.iamf_admission.specs.RoleViews.{view_codec, AreChannels}
 use Rattle.iamf_admission.specs.DescriptorSteps.{primary_in, profile_list, add_totals, total_of, fits_profile, with_header, with_data, with_codec, with_total, with_element, with_mix}
 use Rattle.iamf_admission.specs.Standing.{KeepsDescriptors}
-use Rattle.iamf_admission.proofs.Balance.{IsNoDescriptor, flat_map-push_none, any-push_none, profiles-push_none, codecs-push_none, elements-push_none, mixes-push_none, substreams-push, fit_in, fit_is, fits-push}
-
-pub flat_map-push : {X : Type 0} (f : Role → List X) (l : List Role) (o : Role) → flat_map f (l ++ o ∷ []) ≡ flat_map f l ++ f o
-flat_map-push f l o = flat_map-append f l (o ∷ []) ∙ ap (λ ys. flat_map f l ++ ys) (append-nil (f o))
-
-pub any-push : (p : Role → Bool) (l : List Role) (o : Role) → list_any p (l ++ o ∷ []) ≡ (list_any p l || p o)
-any-push p l o = list_any-append p l (o ∷ []) ∙ ap (λ b. list_any p l || b) (one (p o)) where
-  one : (b : Bool) → (b || false) ≡ b
-  one true = refl
-  one false = refl
-
-map_push : {A : Type 0} (f : A → ℕ) (xs : List A) (x : A) → map f (xs ++ x ∷ []) ≡ map f xs ++ f x ∷ []
-map_push f [] x = refl
-map_push f (y ∷ xs) x = ap (λ (zs : List ℕ). f y ∷ zs) (map_push f xs x)
-
-pub profiles-push : (l : List Role) (o : Role) → profiles (l ++ o ∷ []) ≡ profiles l ++ profile_of o
-unfolding profiles
-profiles-push l o = flat_map-push profile_of l o
-
-codecs-push : (l : List Role) (o : Role) → codecs (l ++ o ∷ []) ≡ codecs l ++ codec_of o
-unfolding codecs
-codecs-push l o = flat_map-push codec_of l o
-
-elements-push : (l : List Role) (o : Role) → elements (l ++ o ∷ []) ≡ elements l ++ element_of o
-unfolding elements
-elements-push l o = flat_map-push element_of l o
-
-mixes-push : (l : List Role) (o : Role) → mixes (l ++ o ∷ []) ≡ mixes l ++ mix_of o
-unfolding mixes
-mixes-push l o = flat_map-push mix_of l o
-
-pub substreams-more : (l : List Role) (o : Role) → substreams (l ++ o ∷ []) ≡ substreams l ++ substreams_of o
-unfolding substreams
-substreams-more l o = flat_map-push substreams_of l o
+use Rattle.iamf_admission.proofs.Balance.{IsNoDescriptor, fit_in, fit_is, fits-push}
 
 -- ---- ranks
 
@@ -63,40 +32,8 @@ ltb-max r a b = grind (arith, nat_tests)
 rank-raised : (r a b : ℕ) → ltb b a ≡ false → (ltb r a || ltb r b) ≡ ltb r b
 rank-raised r a b h = grind (arith, nat_tests)
 
-rank-small : (l : List Role) → list_any (λ o. ltb 5 (rank o)) l ≡ false
-rank-small [] = refl
-rank-small (Ignored ∷ xs) = rank-small xs
-rank-small (SequenceHeader p ∷ xs) = rank-small xs
-rank-small (CodecConfig c ∷ xs) = rank-small xs
-rank-small (AudioElement e ∷ xs) = rank-small xs
-rank-small (MixPresentation m ∷ xs) = rank-small xs
-rank-small (Delimiter ∷ xs) = rank-small xs
-rank-small (ParameterBlock b ∷ xs) = rank-small xs
-rank-small (AudioFrame f ∷ xs) = rank-small xs
-
-pub order_parts : (l : List Role) (r : ℕ) → is_out_of_order l r ≡ false → (is_none_of (profiles l) ≡ false) × (list_any (λ e. ltb r (rank e)) l ≡ false)
-unfolding is_out_of_order
-order_parts l r h = or_parts (is_none_of (profiles l)) (list_any (λ e. ltb r (rank e)) l) h
-
 rank-next : (d : Descriptors) (l : List Role) (o : Role) → KeepsDescriptors d l → is_out_of_order l (rank o) ≡ false → (r : ℕ) → list_any (λ e. ltb r (rank e)) (l ++ o ∷ []) ≡ ltb r (rank o)
 rank-next d l o k order r = any-push (λ e. ltb r (rank e)) l o ∙ ap (λ b. b || ltb r (rank o)) (k.rank_is r) ∙ rank-raised r d.rank (rank o) (sym (k.rank_is (rank o)) ∙ (order_parts l (rank o) order).1)
-
--- a mix is of rank 4
-pub no_mix : (r : ℕ) → r < 4 → (l : List Role) → list_any (λ e. ltb r (rank e)) l ≡ false → mixes l ≡ []
-unfolding mixes
-no_mix r small [] h = refl
-no_mix r small (x ∷ xs) h = let parts : (ltb r (rank x) ≡ false) × (list_any (λ e. ltb r (rank e)) xs ≡ false) = or_parts (ltb r (rank x)) (list_any (λ e. ltb r (rank e)) xs) h in
-    ap (λ (ms : List MixRole). ms ++ flat_map mix_of xs) (one x parts.0) ∙ no_mix r small xs parts.1
-  where
-    one : (o : Role) → ltb r (rank o) ≡ false → mix_of o ≡ []
-    one (MixPresentation m) h = absurd (grind (arith, nat_tests))
-    one Ignored h = refl
-    one (SequenceHeader p) h = refl
-    one (CodecConfig c) h = refl
-    one (AudioElement e) h = refl
-    one Delimiter h = refl
-    one (ParameterBlock b) h = refl
-    one (AudioFrame f) h = refl
 
 -- ---- without mixes nothing fits
 
@@ -290,10 +227,6 @@ descriptors-mix d l m k order = record {
   ones : (eqb (length m.sub_mixes) 1 && fits_profile d (flat_map (λ ids. ids) m.sub_mixes)) ≡ fits_sub_mixes (first_profile (profiles l)) (elements l) m.sub_mixes
   ones = fits_are (primary_in d.profile) d.totals (elements l) m.sub_mixes k.totals ∙ ap (λ p. fits_sub_mixes p (elements l) m.sub_mixes) (first_in d.profile ∙ ap first_profile k.profile)
 
-  or_false : (b : Bool) → (b || false) ≡ b
-  or_false true = refl
-  or_false false = refl
-
   last : has_fit (l ++ o ∷ []) ≡ (fit_in (profiles l) (elements l) (mixes l) || (fits_sub_mixes (first_profile (profiles l)) (elements l) m.sub_mixes || false))
   last =
       fit_is (l ++ o ∷ [])
@@ -301,13 +234,3 @@ descriptors-mix d l m k order = record {
       ∙ ap (λ (es : List ElementRole). fit_in (profiles l) es (mixes (l ++ o ∷ []))) (elements-push_none l o refl)
       ∙ ap (λ (ms : List MixRole). fit_in (profiles l) (elements l) ms) (mixes-push l o)
       ∙ list_any-append (λ (x : MixRole). fits_sub_mixes (first_profile (profiles l)) (elements l) x.sub_mixes) (mixes l) (m ∷ [])
-
--- ---- what stays
-
-pub frame_length-push : (l : List Role) (o : Role) → codec_of o ≡ [] → frame_length (l ++ o ∷ []) ≡ frame_length l
-unfolding frame_length
-frame_length-push l o none = ap first_length (codecs-push_none l o none)
-
-pub definitions-push : (l : List Role) (o : Role) → definitions_of o ≡ [] → definitions (l ++ o ∷ []) ≡ definitions l
-unfolding definitions
-definitions-push l o none = ap (λ ds. fold with_definition [] ds) (flat_map-push_none definitions_of l o none)

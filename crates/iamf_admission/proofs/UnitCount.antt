@@ -1,44 +1,29 @@
 -- How many units are begun, as OBUs come.
-use Rattle.std.proofs.Common.{◌≡◌, ℕ, ◌+◌, Bool, true, false, not, cond, List, [], ◌∷◌, ◌++◌, refl, sym, ap, ◌∙◌, inl, inr, append-nil, ne_eqb, arith}
-use Rattle.std.specs.Prelude.{fold}
+use Rattle.std.proofs.Common.{◌≡◌, ◌+◌, Bool, true, false, not, cond, List, [], ◌∷◌, ◌++◌, refl, sym, ap, ◌∙◌, inl, inr, append-nil, ne_eqb, arith}
 use Rattle.std.specs.List.{list_any}
 use Rattle.std.proofs.lemmas.Bool.{cases_Bool}
-use Rattle.std.proofs.lemmas.Grind.{fold-append}
 use Rattle.spec_sequence.specs.Role.{Role, Ignored, Delimiter, ParameterBlock, AudioFrame, BlockRole, FrameRole}
 use Rattle.spec_sequence.specs.Descriptors.{substreams}
-use Rattle.spec_sequence.specs.Units.{contains, is_none_of, is_data, is_delimited, open_unit, unit_after, placed, in_unit, streams_in, unit_count}
+use Rattle.spec_sequence.specs.Units.{contains, is_none_of, is_data, is_delimited, open_unit, unit_after, in_unit, streams_in, unit_count}
+use Rattle.spec_sequence.proofs.Placing.{unit_count-push, unit_count-none, unit_after-other, unit_after-delimiter}
+use Rattle.spec_sequence.proofs.OpenUnits.{open_unit-none, open_unit-quiet, open_unit-delimiter}
+use Rattle.spec_sequence.proofs.UnitLists.{in_unit-push, in_unit-here, in_unit-none}
 use Rattle.iamf_admission.specs.declared.open_unit.OpenUnit.{OpenUnit}
 use Rattle.iamf_admission.specs.UnitSteps.{units_of}
 use Rattle.iamf_admission.specs.Standing.{KeepsUnit}
-use Rattle.iamf_admission.proofs.Placing.{placed_last, placed-push, unit_after-other, unit_after-delimiter}
-use Rattle.iamf_admission.proofs.Balance.{IsBalanced, is_full, no_placed, in_unit-later, open_unit-none, open_unit-quiet, open_unit-delimiter, open_unit-frame, some_streams}
-use Rattle.iamf_admission.proofs.UnitStepping.{in_unit-push, in_unit-here, in_unit-none}
+use Rattle.iamf_admission.proofs.Balance.{IsBalanced, is_full, in_unit-later, open_unit-frame, some_streams}
 
 -- the units before the open one, and that one once it is begun
 abbrev pub IsCounted : List Role → Type 0
 IsCounted l = unit_count l ≡ open_unit l + cond (is_none_of (in_unit (open_unit l) l)) 0 1
 
-abbrev after_last : ℕ → ℕ × Role → ℕ
-after_last n p = p.0 + 1
-
-count-push : (l : List Role) (o : Role) → unit_count (l ++ o ∷ []) ≡ cond (is_data o) (unit_after l o + 1) (unit_count l)
-unfolding unit_count
-count-push l o = ap (λ (ps : List (ℕ × Role)). fold after_last 0 ps) (placed-push l o) ∙ fold-append after_last 0 (placed l) (placed_last l o) ∙ one (is_data o) where
-  one : (b : Bool) → fold after_last (fold after_last 0 (placed l)) (cond b ((unit_after l o, o) ∷ []) []) ≡ cond b (unit_after l o + 1) (fold after_last 0 (placed l))
-  one true = refl
-  one false = refl
-
-count-none : (l : List Role) → list_any is_data l ≡ false → unit_count l ≡ 0
-unfolding unit_count placed
-count-none l none = ap (λ (ps : List (ℕ × Role)). fold after_last 0 ps) (no_placed [] l none)
-
 pub counted-none : (l : List Role) → list_any is_data l ≡ false → IsCounted l
-counted-none l none = count-none l none ∙ sym (ap (λ u. u + cond (is_none_of (in_unit (open_unit l) l)) 0 1) (open_unit-none l none) ∙ ap (λ (os : List Role). 0 + cond (is_none_of os) 0 1) (in_unit-none (open_unit l) l none))
+counted-none l none = unit_count-none l none ∙ sym (ap (λ u. u + cond (is_none_of (in_unit (open_unit l) l)) 0 1) (open_unit-none l none) ∙ ap (λ (os : List Role). 0 + cond (is_none_of os) 0 1) (in_unit-none (open_unit l) l none))
 
 -- an OBU that stands in the open unit after it
 in_open : (l : List Role) (o : Role) → is_data o ≡ true → unit_after l o ≡ open_unit (l ++ o ∷ []) → IsCounted (l ++ o ∷ [])
 in_open l o data_obu here =
-    count-push l o ∙ ap (λ b. cond b (unit_after l o + 1) (unit_count l)) data_obu ∙ ap (λ u. u + 1) here
+    unit_count-push l o ∙ ap (λ b. cond b (unit_after l o + 1) (unit_count l)) data_obu ∙ ap (λ u. u + 1) here
     ∙ ap (λ b. open_unit (l ++ o ∷ []) + cond b 0 1) (flip (is_none_of (in_unit (open_unit (l ++ o ∷ [])) (l ++ o ∷ []))) (in_unit-here (open_unit (l ++ o ∷ [])) l o data_obu here))
   where
     flip : (b : Bool) → true ≡ not b → false ≡ b
@@ -47,7 +32,7 @@ in_open l o data_obu here =
 
 pub counted-ignored : (l : List Role) → IsCounted l → IsCounted (l ++ Ignored ∷ [])
 counted-ignored l counted =
-    count-push l Ignored ∙ counted
+    unit_count-push l Ignored ∙ counted
     ∙ sym (ap (λ u. u + cond (is_none_of (in_unit u (l ++ Ignored ∷ []))) 0 1) (open_unit-quiet l Ignored refl refl refl)
     ∙ ap (λ (os : List Role). open_unit l + cond (is_none_of os) 0 1) (in_unit-push (open_unit l) l Ignored ∙ append-nil (in_unit (open_unit l) l)))
 
@@ -77,7 +62,7 @@ counted-frame l f balanced known new = elim (cases_Bool (is_full l f.substream (
 
   closes : open_unit (l ++ o ∷ []) ≡ open_unit l + 1 → IsCounted (l ++ o ∷ [])
   closes next =
-      count-push l o ∙ ap (λ u. u + 1) here
+      unit_count-push l o ∙ ap (λ u. u + 1) here
       ∙ sym (ap (λ u. u + cond (is_none_of (in_unit u (l ++ o ∷ []))) 0 1) next ∙ ap (λ (os : List Role). (open_unit l + 1) + cond (is_none_of os) 0 1) empty ∙ omega arith)
 
 pub units_are : (a : OpenUnit) (l : List Role) → IsCounted l → KeepsUnit a l → units_of a ≡ unit_count l

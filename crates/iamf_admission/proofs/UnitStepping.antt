@@ -1,5 +1,5 @@
 -- What is kept of the open unit goes on as OBUs come.
-use Rattle.std.proofs.Common.{◌≡◌, ◌⊎◌, ℕ, ◌+◌, ◌≤◌, Bool, true, false, not, ◌&&◌, ◌||◌, cond, eqb, ltb, List, [], ◌∷◌, ◌++◌, length, map, refl, sym, ap, ap₂, ◌∙◌, inl, inr, subst, append-nil, eqb-true, eq-eqb, ne_eqb, le-ltb, le_of_eq, true≢false, arith}
+use Rattle.std.proofs.Common.{◌≡◌, ◌⊎◌, ℕ, ◌+◌, ◌≤◌, Bool, true, false, not, ◌&&◌, ◌||◌, cond, eqb, ltb, List, [], ◌∷◌, ◌++◌, length, refl, sym, ap, ap₂, ◌∙◌, inl, inr, subst, append-nil, eqb-true, ne_eqb, le_of_eq, true≢false, arith}
 use Rattle.std.specs.Prelude.{Option, Some, None, is_some, find, fold}
 use Rattle.std.specs.List.{flat_map, list_any, list_all}
 use Rattle.std.specs.Option.{option_map, option_map_or}
@@ -9,10 +9,15 @@ use Rattle.std.proofs.lemmas.Grind.{flat_map-append, fold-append}
 use Rattle.std.proofs.lemmas.List.Folds.{list_any-append}
 use Rattle.spec_blocks.specs.Shape.{Definition, shape_of}
 use Rattle.spec_sequence.specs.Role as role
-use Rattle.spec_sequence.specs.Role.{Role, Ignored, SequenceHeader, CodecConfig, AudioElement, MixPresentation, Delimiter, ParameterBlock, AudioFrame, BlockRole, FrameRole}
+use Rattle.spec_sequence.specs.Role.{Role, Ignored, SequenceHeader, CodecConfig, AudioElement, MixPresentation, Delimiter, ParameterBlock, AudioFrame, BlockRole}
 use Rattle.spec_sequence.specs.Descriptors.{codec_of, definitions_of, codecs, substreams, frame_length, definitions}
-use Rattle.spec_sequence.specs.Units.{contains, is_none_of, is_data, is_delimiter, stream_of, trim_of, block_of, is_delimited, delimiters, open_unit, unit_after, placed, if_unit, in_units, in_unit, before_unit, streams_in, trims_in, trims_before, blocks_in, duration_by, duration_of, block_in, end_after, block_end}
+use Rattle.spec_sequence.specs.Units.{contains, is_data, is_delimiter, trim_of, is_delimited, delimiters, open_unit, unit_after, placed, if_unit, in_units, in_unit, before_unit, streams_in, trims_in, trims_before, blocks_in, duration_by, duration_of, block_in, end_after, block_end}
 use Rattle.spec_sequence.specs.Rules.{keeps, cuts, rate_of}
+use Rattle.spec_sequence.proofs.Basics.{or_false, any-push}
+use Rattle.spec_sequence.proofs.Placing.{placed_last, placed-push, in_units-push, find-kept, find-none, is_delimited-kept, unit_after-other, unit_after-delimiter, no_placed, found-none, found-quiet}
+use Rattle.spec_sequence.proofs.DescriptorLists.{codecs-push_none, frame_length-push, definitions-push}
+use Rattle.spec_sequence.proofs.UnitLists.{streams_in-none, streams_in-push, trims_in-push, trims_before-push, in_unit-push, blocks_in-push, in_unit-here, streams_in-here, trims_in-here, blocks_in-here, trims_before-here, in_unit-none, trims_in-none, blocks_in-none, trims_before-none}
+use Rattle.spec_sequence.proofs.OpenUnits.{open_unit-delimiter, open_unit-ended, delimiters-none, open_unit-none, open_unit-quiet}
 use Rattle.iamf_admission.specs.declared.roles.Trim.{Trim}
 use Rattle.iamf_admission.specs.declared.open_unit.OpenUnit.{OpenUnit}
 use Rattle.iamf_admission.specs.RoleViews.{view_trim}
@@ -20,11 +25,9 @@ use Rattle.iamf_admission.specs.Ends.{end_of}
 use Rattle.iamf_admission.specs.UnitSteps.{differs, keeps_one, cuts_one, is_full, closed, with_id, with_block, holding, with_frame, delimiting, with_delimiter, is_marked}
 use Rattle.iamf_admission.specs.AdmissionSteps.{WithEnd, start_of}
 use Rattle.iamf_admission.specs.Standing.{AreTrims, KeepsUnitAt, KeepsUnit, is_timed, KeepsEnds}
-use Rattle.iamf_admission.proofs.Placing.{last_in, placed_last, placed-push, in_units-push, find-kept, find-none, is_delimited-kept, unit_after-other, unit_after-delimiter}
-use Rattle.iamf_admission.proofs.Balance.{IsBalanced, no_placed, later, in_units-none, codecs-push_none, open_unit-frame, open_unit-delimiter, open_unit-ended, delimiters-none, streams_in-none, open_unit-none, open_unit-quiet, some_streams, streams_in-push, trims_in-push, trims_before-push}
+use Rattle.iamf_admission.proofs.Balance.{IsBalanced, later, open_unit-frame, some_streams}
 use Rattle.iamf_admission.proofs.Orderly.{IsOrderly, full_by_count}
 use Rattle.iamf_admission.proofs.Faulting.{FirstIs, first_is, marked_is, frame_of}
-use Rattle.iamf_admission.proofs.Stepping.{any-push, frame_length-push, definitions-push}
 
 or_assoc : (x y z : Bool) → (x || (y || z)) ≡ ((x || y) || z)
 or_assoc true y z = refl
@@ -49,40 +52,6 @@ found-delimiter l h = one (find is_data (l ++ Delimiter ∷ [])) h where
   one None e = absurd (grind arith)
   one (Some o) e = rw e refl
 
--- what the last OBU adds to a unit
-pub in_unit-push : (u : ℕ) (l : List Role) (o : Role) → in_unit u (l ++ o ∷ []) ≡ in_unit u l ++ last_in (λ v. eqb v u) l o
-unfolding in_unit
-in_unit-push u l o = in_units-push (λ v. eqb v u) l o
-
-not_none-push : {X : Type 0} (xs : List X) (x : X) → is_none_of (xs ++ x ∷ []) ≡ false
-not_none-push [] x = refl
-not_none-push (y ∷ ys) x = refl
-
-pub in_unit-here : (u : ℕ) (l : List Role) (o : Role) → is_data o ≡ true → unit_after l o ≡ u → true ≡ not (is_none_of (in_unit u (l ++ o ∷ [])))
-in_unit-here u l o data_obu here = rw (in_unit-push u l o, data_obu, here, eq-eqb u u refl, not_none-push (in_unit u l) o) refl
-
-trims_in-here : (u : ℕ) (l : List Role) (o : Role) → is_data o ≡ true → unit_after l o ≡ u → trims_in u (l ++ o ∷ []) ≡ trims_in u l ++ trim_of o
-trims_in-here u l o data_obu here = rw (trims_in-push u l o, data_obu, here, eq-eqb u u refl, append-nil) refl
-
-streams_in-here : (u : ℕ) (l : List Role) (o : Role) → is_data o ≡ true → unit_after l o ≡ u → streams_in u (l ++ o ∷ []) ≡ streams_in u l ++ stream_of o
-streams_in-here u l o data_obu here = rw (streams_in-push u l o, data_obu, here, eq-eqb u u refl, append-nil) refl
-
-blocks_in-push : (u : ℕ) (l : List Role) (o : Role) → blocks_in u (l ++ o ∷ []) ≡ blocks_in u l ++ map (λ b. b.id) (flat_map block_of (last_in (λ v. eqb v u) l o))
-unfolding blocks_in
-blocks_in-push u l o =
-    ap (λ (os : List Role). map (λ b. b.id) (flat_map block_of os)) (in_unit-push u l o)
-    ∙ ap (λ (bs : List BlockRole). map (λ b. b.id) bs) (flat_map-append block_of (in_unit u l) (last_in (λ v. eqb v u) l o))
-    ∙ map_both (flat_map block_of (in_unit u l)) (flat_map block_of (last_in (λ v. eqb v u) l o)) where
-      map_both : (xs ys : List BlockRole) → map (λ b. b.id) (xs ++ ys) ≡ map (λ b. b.id) xs ++ map (λ b. b.id) ys
-      map_both [] ys = refl
-      map_both (x ∷ xs) ys = ap (λ (ids : List ℕ). x.id ∷ ids) (map_both xs ys)
-
-blocks_in-here : (u : ℕ) (l : List Role) (o : Role) → is_data o ≡ true → unit_after l o ≡ u → blocks_in u (l ++ o ∷ []) ≡ blocks_in u l ++ map (λ b. b.id) (block_of o)
-blocks_in-here u l o data_obu here = rw (blocks_in-push u l o, data_obu, here, eq-eqb u u refl, append-nil) refl
-
-trims_before-here : (u : ℕ) (l : List Role) (o : Role) → is_data o ≡ true → unit_after l o ≡ u → trims_before u (l ++ o ∷ []) ≡ trims_before u l
-trims_before-here u l o data_obu here = rw (trims_before-push u l o, data_obu, here, le-ltb u u (omega arith), append-nil) refl
-
 -- one more unit before
 before_next-step : (test : role.Trim → Bool) (u v : ℕ) (o : Role) (ps : List (ℕ × Role)) (upto under here : Bool)
     → list_any test (flat_map trim_of (flat_map (if_unit (λ v. ltb v (u + 1))) ps)) ≡ (list_any test (flat_map trim_of (flat_map (if_unit (λ v. ltb v u)) ps)) || list_any test (flat_map trim_of (flat_map (if_unit (λ v. eqb v u)) ps)))
@@ -105,10 +74,7 @@ trims_before-next test u l = before-next test u (placed l)
 
 -- a frame comes into the open unit
 trims-hold : (t : Option Trim) (ts : List role.Trim) (trim : Trim) → AreTrims t ts → differs trim t ≡ false → (test : role.Trim → Bool) → list_any test (ts ++ view_trim trim ∷ []) ≡ test (view_trim trim)
-trims-hold None ts trim same alike test = rw same (or_false (test (view_trim trim))) where
-  or_false : (b : Bool) → (b || false) ≡ b
-  or_false true = refl
-  or_false false = refl
+trims-hold None ts trim same alike test = rw same (or_false (test (view_trim trim)))
 trims-hold (Some t) ts trim same alike test = rw (list_any-append, same test, same_is) (twice (test (view_trim trim))) where
   parts : (eqb t.end trim.end ≡ true) × (eqb t.start trim.start ≡ true)
   parts = and_parts (eqb t.end trim.end) (eqb t.start trim.start) (not-false (eqb t.end trim.end && eqb t.start trim.start) alike)
@@ -196,10 +162,7 @@ with_id-contains : (xs ys : List ℕ) (id : ℕ) → ((q : ℕ) → contains xs 
 with_id-contains xs ys id same q = one (contains xs id) refl ∙ sym (list_any-append (λ y. eqb y q) ys (id ∷ [])) where
   two : (b : Bool) → eqb id q ≡ b → contains ys id ≡ true → contains ys q ≡ (contains ys q || (b || false))
   two true e there = ap (contains ys) (sym (eqb-true id q e)) ∙ there ∙ sym (or_right (contains ys q) true refl)
-  two false e there = sym (or_false (contains ys q)) where
-    or_false : (b : Bool) → (b || false) ≡ b
-    or_false true = refl
-    or_false false = refl
+  two false e there = sym (or_false (contains ys q))
 
   one : (b : Bool) → contains xs id ≡ b → contains (cond b xs (xs ++ id ∷ [])) q ≡ (contains ys q || (eqb id q || false))
   one true there = same q ∙ two (eqb id q) refl (sym (same id) ∙ there)
@@ -236,26 +199,6 @@ start-unit a l u k with here = record {
   cut = rw (trims_before-here u l Delimiter refl here) k.cut;
 }
 
--- lists without a data OBU
-found-none : (l : List Role) → list_any is_data l ≡ false → find is_data l ≡ None
-found-none l none = ap (find is_data) (sym (append-nil l)) ∙ find-none l [] none
-
-pub in_unit-none : (u : ℕ) (l : List Role) → list_any is_data l ≡ false → in_unit u l ≡ []
-unfolding in_unit
-in_unit-none u l none = in_units-none (λ v. eqb v u) l none
-
-blocks_in-none : (u : ℕ) (l : List Role) → list_any is_data l ≡ false → blocks_in u l ≡ []
-unfolding blocks_in
-blocks_in-none u l none = ap (λ (os : List Role). map (λ b. b.id) (flat_map block_of os)) (in_unit-none u l none)
-
-trims_in-none : (u : ℕ) (l : List Role) → list_any is_data l ≡ false → trims_in u l ≡ []
-unfolding trims_in in_unit
-trims_in-none u l none = rw (in_units-none (λ v. eqb v u) l none) refl
-
-trims_before-none : (u : ℕ) (l : List Role) → list_any is_data l ≡ false → trims_before u l ≡ []
-unfolding trims_before before_unit
-trims_before-none u l none = rw (in_units-none (λ v. ltb v u) l none) refl
-
 pub unit-none : (a : OpenUnit) (l m : List Role) → list_any is_data l ≡ false → list_any is_data m ≡ false → KeepsUnit a l → KeepsUnit a m
 unit-none a l m none_l none_m k = record {
   delimited = k.delimited ∙ rw (found-none l none_l, found-none m none_m) refl;
@@ -267,12 +210,6 @@ unit-none a l m none_l none_m k = record {
   kept = k.kept ∙ rw (trims_before-none (open_unit l) l none_l, trims_before-none (open_unit m) m none_m) refl;
   cut = k.cut ∙ rw (trims_before-none (open_unit l) l none_l, trims_before-none (open_unit m) m none_m) refl;
 }
-
-found-quiet : (l : List Role) (o : Role) → is_data o ≡ false → find is_data (l ++ o ∷ []) ≡ find is_data l
-found-quiet l o quiet = elim (cases_Bool (list_any is_data l)) [
-  | inl has ↦ find-kept l (o ∷ []) has
-  | inr none ↦ rw (find-none l (o ∷ []) none, quiet, found-none l none) refl
-]
 
 pub unit-ignored : (a : OpenUnit) (l : List Role) → KeepsUnit a l → KeepsUnit a (l ++ Ignored ∷ [])
 unit-ignored a l k = rw (open_unit-quiet l Ignored refl refl refl) (record {

@@ -1,6 +1,6 @@
 -- One more OBU of the bytes, or the first fault.
 use Rattle.std.proofs.Common.{◌≡◌, ℕ, ◌-◌, ◌<◌, ◌≤◌, List, [], ◌∷◌, ◌++◌, take, drop, length, refl, sym, ap, subst, ◌∙◌, arith, append_assoc, append-nil, length-drop}
-use Rattle.std.specs.Prelude.{Option, Some, Err}
+use Rattle.std.specs.Prelude.{Option, Some, Result, Ok, Err, IfErr}
 use Rattle.std.proofs.lemmas.List.{map-append, take-append-drop, length-take-le}
 use Rattle.std.proofs.Math.Seq.{take-add, drop-length}
 use Rattle.spec_obu.specs.declared.HeaderFault.{HeaderFault}
@@ -11,21 +11,26 @@ use Rattle.spec_sequence.specs.declared.fault.Fault.TheVariants as fault
 use Rattle.spec_sequence.specs.Value.{Spells}
 use Rattle.spec_sequence.specs.Role.{Role, role}
 use Rattle.spec_sequence.specs.Rules.{end_fault}
-use Rattle.spec_sequence.specs.Reading.{Entry, roles, context_after, IsAdmissible, AdmittedAfter, Admitted, FailsAt, AtEnd, OfHeader, OfObu, Refuses}
+use Rattle.spec_sequence.specs.Reading.{Entry, values_of, roles, context_after, IsAdmissible, AdmittedAfter, Admitted, FailsAt, AtEnd, OfHeader, OfObu, Refuses}
 use Rattle.spec_sequence.proofs.FixedContext as context
 use Rattle.spec_sequence.proofs.FixedContext.{keeps-nil, keeps-push}
+use Rattle.spec_sequence.proofs.Roles.{roles_more}
 use Rattle.iamf_admission.specs.declared.admission.AdmitError.{AdmitError}
 use Rattle.iamf_admission.specs.declared.admission.AdmitError.TheVariants as admit
 use Rattle.obu_header.specs.declared.view.ObuView.{ObuView}
 use Rattle.obu_header.specs.View.{head_of}
-use Rattle.iamf_sequence.specs.declared.draft.Draft.{Draft}
+use Rattle.iamf_sequence.specs.declared.kept.Kept.{Kept}
+use Rattle.iamf_sequence.specs.declared.reader.Reader.{Reader}
+use Rattle.iamf_sequence.specs.declared.reader.Said.{Said}
+use Rattle.iamf_sequence.specs.declared.reader.Next.{Next}
 use Rattle.iamf_sequence.specs.declared.parts.Placed.{Placed}
 use Rattle.iamf_sequence.specs.declared.refusal.DecodeError.{DecodeError}
 use Rattle.iamf_sequence.specs.declared.refusal.DecodeError.TheVariants as errors
 use Rattle.iamf_sequence.specs.Places.{not_taken_at, refused_at, IsRefused}
-use Rattle.iamf_sequence.specs.DraftView.{number_after, IsDraft, IsTaken, Fails}
-use Rattle.iamf_sequence.specs.SequenceView.{AreViews, numbers_after, views_of, IsWalked, Finishes}
-use Rattle.iamf_sequence.proofs.Copies.{roles_more}
+use Rattle.iamf_sequence.specs.KeptView.{Keeps}
+use Rattle.iamf_sequence.specs.ReaderView.{number_after, number_said, IsReader, IsTaken, HasRead, IsNext, Fails, Finishes}
+use Rattle.iamf_sequence.specs.SequenceView.{AreViews, numbers_after, views_of}
+use Rattle.iamf_sequence.specs.DraftView.{IsPlaced}
 use Rattle.iamf_sequence.proofs.Tiling.{tiles_more}
 
 -- ---- lists
@@ -65,21 +70,29 @@ numbers_last l (x ∷ xs) o =
 
 -- ---- one more OBU
 
-pub walked_more : (bytes : List ℕ) (at : ℕ) (old new : Draft) (obus : List Placed) (p : Placed) (l : List Entry) (e : Entry) → IsWalked bytes at old obus l → p.view.at ≡ at → at < p.view.end
-    → Header (head_of p.view.head) p.view.payload.now (take (p.view.end - at) (drop at bytes)) → IsTaken l p.view p.unit e → IsDraft new (l ++ e ∷ []) → IsWalked bytes p.view.end new (obus ++ p ∷ []) (l ++ e ∷ [])
-walked_more bytes at old new obus p l e is place onward header taken draft =
-    let piece : List ℕ = take (p.view.end - at) (drop at bytes) in
+pub read_more : (bytes : List ℕ) (at : ℕ) (old new : Reader) (view : ObuView) (said : Option Said) (l : List Entry) (e : Entry) → HasRead bytes at old l → at < view.end
+    → Header (head_of view.head) view.payload.now (take (view.end - at) (drop at bytes)) → IsTaken l view said e → IsReader new (l ++ e ∷ []) → HasRead bytes view.end new (l ++ e ∷ [])
+read_more bytes at old new view said l e is onward header taken reader =
+    let piece : List ℕ = take (view.end - at) (drop at bytes) in
     let spelled : Header e.value.head e.payload piece =
-    subst (λ (h : Head). Header h e.payload piece) (sym taken.head) (subst (λ (b : List ℕ). Header (head_of p.view.head) b piece) (sym taken.payload) header) in
-    let grown : take p.view.end bytes ≡ take at bytes ++ piece = ap (λ (n : ℕ). take n bytes) (omega (arith, onward)) ∙ take-add at (p.view.end - at) bytes in
+    subst (λ (h : Head). Header h e.payload piece) (sym taken.head) (subst (λ (b : List ℕ). Header (head_of view.head) b piece) (sym taken.payload) header) in
+    let grown : take view.end bytes ≡ take at bytes ++ piece = ap (λ (n : ℕ). take n bytes) (omega (arith, onward)) ∙ take-add at (view.end - at) bytes in
     record {
       admitted = subst (λ (b : List ℕ). Admitted b (l ++ e ∷ [])) (sym grown) (admitted_last [] (take at bytes) piece l e is.admitted (record { header = spelled; payload_is = taken.payload_is }) taken.admissible);
-      draft = draft;
-      views = subst (λ (vs : List ObuView). AreViews vs (l ++ e ∷ [])) (sym (map-append (λ o. o.view) obus (p ∷ []))) (views_last (views_of obus) p.view l e is.views (sym taken.head) (sym taken.payload));
-      tiles = tiles_more bytes 0 at obus p is.tiles place onward header;
-      numbers = map-append (λ o. o.unit) obus (p ∷ []) ∙ ap (λ (ns : List (Option ℕ)). ns ++ p.unit ∷ []) is.numbers ∙ ap (λ (n : Option ℕ). numbers_after [] (roles l) ++ n ∷ []) taken.unit
-          ∙ sym (ap (numbers_after []) (roles_more l e) ∙ numbers_last [] (roles l) (role e.value));
+      reader = reader;
     }
+
+pub placed_more : (bytes : List ℕ) (at : ℕ) (old new : Kept) (obus : List Placed) (p : Placed) (next : Next) (l : List Entry) (e : Entry) → IsPlaced bytes at old obus l → IsNext bytes at next l e → p.view ≡ next.view
+    → p.unit ≡ number_said next.said → Keeps new (values_of (l ++ e ∷ [])) → IsPlaced bytes next.view.end new (obus ++ p ∷ []) (l ++ e ∷ [])
+placed_more bytes at old new obus p next l e is then view unit kept = subst (λ (v : ObuView). IsPlaced bytes v.end new (obus ++ p ∷ []) (l ++ e ∷ [])) view (record {
+  kept = kept;
+  views = subst (λ (vs : List ObuView). AreViews vs (l ++ e ∷ [])) (sym (map-append (λ o. o.view) obus (p ∷ [])))
+      (views_last (views_of obus) p.view l e is.views (ap (λ (v : ObuView). head_of v.head) view ∙ sym then.taken.head) (ap (λ (v : ObuView). v.payload.now) view ∙ sym then.taken.payload));
+  tiles = tiles_more bytes 0 at obus p is.tiles (ap (λ (v : ObuView). v.at) view ∙ then.place) (subst (λ (v : ObuView). at < v.end) (sym view) then.onward)
+      (subst (λ (v : ObuView). Header (head_of v.head) v.payload.now (take (v.end - at) (drop at bytes))) (sym view) then.header);
+  numbers = map-append (λ o. o.unit) obus (p ∷ []) ∙ ap (λ (ns : List (Option ℕ)). ns ++ p.unit ∷ []) is.numbers ∙ ap (λ (n : Option ℕ). numbers_after [] (roles l) ++ n ∷ []) (unit ∙ then.taken.unit)
+      ∙ sym (ap (numbers_after []) (roles_more l e) ∙ numbers_last [] (roles l) (role e.value));
+})
 
 -- ---- the first fault
 
@@ -110,6 +123,10 @@ obu_refused bytes at l view (admit.Memory e) before admitted header fails = tt
 pub end_refused : (bytes : List ℕ) (at : ℕ) (l : List Entry) (f : Fault) → at ≡ length bytes → Admitted (take (length bytes) bytes) l → end_fault (roles l) ≡ Some f → IsRefused bytes (refused_at at f)
 end_refused bytes at l f is admitted fails = subst (λ (n : ℕ). Refuses bytes n f) (sym is) (refuses bytes (length bytes) l f (omega arith) admitted (AtEnd (drop-length bytes) fails))
 
-pub finish_refused : (bytes : List ℕ) (l : List Entry) (e : DecodeError) → Admitted (take (length bytes) bytes) l → Finishes bytes l (Err e) → IsRefused bytes e
-finish_refused bytes l (errors.Refused r) admitted h = end_refused bytes r.at l r.fault h.0 admitted h.1
-finish_refused bytes l (errors.Memory e) admitted h = tt
+pub finish_refused : {X : Type 0} (bytes : List ℕ) (l : List Entry) (is : X → Type 0) (e : DecodeError) → Admitted (take (length bytes) bytes) l → Finishes bytes l is (Err e) → IsRefused bytes e
+finish_refused bytes l is (errors.Refused r) admitted h = end_refused bytes r.at l r.fault h.0 admitted h.1
+finish_refused bytes l is (errors.Memory e) admitted h = tt
+
+pub finish_refuses : {X : Type 0} (bytes : List ℕ) (l : List Entry) (is : X → Type 0) (r : Result X DecodeError) → Admitted (take (length bytes) bytes) l → Finishes bytes l is r → IfErr r (λ e. IsRefused bytes e)
+finish_refuses bytes l is (Ok x) admitted h = tt
+finish_refuses bytes l is (Err e) admitted h = finish_refused bytes l is e admitted h

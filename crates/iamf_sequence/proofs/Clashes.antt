@@ -2,12 +2,13 @@
 use Rattle.std.proofs.Common.{◌≡◌, ℕ, ◌+◌, ◌<◌, Bool, true, false, List, [], ◌∷◌, ◌++◌, length, get_or, take, drop, map, fold, refl, sym, ap, subst, ◌∙◌}
 use Rattle.std.specs.Prelude.{Some, None, Result, Ok, Err, if◌then◌else◌}
 use Rattle.std.specs.List.{flat_map}
-use Rattle.std.proofs.lemmas.List.{append-nil, take-append-drop}
-use Rattle.std.proofs.lemmas.Grind.{take_at_read, flat_map-append, fold-append}
+use Rattle.std.proofs.lemmas.List.{take-append-drop}
+use Rattle.std.proofs.lemmas.Grind.{flat_map-append, fold-append}
 use Rattle.spec_blocks.specs.Shape.{Definition, shape_of, with_definition}
 use Rattle.spec_sequence.specs.declared.fault.Fault.{Fault}
 use Rattle.spec_sequence.specs.declared.fault.Fault.TheVariants.{ParamClash}
 use Rattle.spec_sequence.specs.Rules.{is_other, clashing}
+use Rattle.spec_sequence.proofs.Basics.{flat_map-take}
 use Rattle.iamf_admission.specs.declared.admission.AdmitError.{AdmitError}
 use Rattle.iamf_admission.specs.declared.admission.AdmitError.TheVariants as errors
 use Rattle.iamf_sequence.specs.Defining.{AddsAll}
@@ -44,16 +45,12 @@ adds_fail old new xs ys (errors.Memory e) a = tt
 
 -- ---- those of a list
 
-flat_one : {B : Type 0} (f : B → List Definition) (bs : List B) (i : ℕ) (d : B) → i < length bs → flat_map f (take (i + 1) bs) ≡ flat_map f (take i bs) ++ f (get_or bs i d)
-flat_one f bs i d lt =
-    ap (flat_map f) (take_at_read bs i d lt).1 ∙ flat_map-append f (take i bs) (get_or bs i d ∷ []) ∙ ap (λ (ys : List Definition). flat_map f (take i bs) ++ ys) (append-nil (f (get_or bs i d)))
-
 pub adds_more : {B : Type 0} (f : B → List Definition) (bs : List B) (i : ℕ) (item : B) (old now new : List Definition) → i < length bs → item ≡ get_or bs i item
     → AddsAll old (flat_map f (take i bs)) (Ok tt) now → AddsAll now (f item) (Ok tt) new → AddsAll old (flat_map f (take (i + 1) bs)) (Ok tt) new
 adds_more {B} f bs i item old now new lt is a b =
     let same : f item ≡ f (get_or bs i item) = ap f is in
     let b' = subst (λ (ds : List Definition). AddsAll now ds (Ok tt) new) same b in
-    subst (λ (ds : List Definition). AddsAll old ds (Ok tt) new) (sym (flat_one f bs i item lt)) (adds_both old now new (flat_map f (take i bs)) (f (get_or bs i item)) (Ok tt) a b')
+    subst (λ (ds : List Definition). AddsAll old ds (Ok tt) new) (sym (flat_map-take f bs i item lt)) (adds_both old now new (flat_map f (take i bs)) (f (get_or bs i item)) (Ok tt) a b')
 
 pub adds_stop : {B : Type 0} (f : B → List Definition) (bs : List B) (i : ℕ) (item : B) (old now new : List Definition) (e : AdmitError) → i < length bs → item ≡ get_or bs i item
     → AddsAll old (flat_map f (take i bs)) (Ok tt) now → AddsAll now (f item) (Err e) new → AddsAll old (flat_map f bs) (Err e) new
@@ -62,7 +59,7 @@ adds_stop {B} f bs i item old now new e lt is a b =
     let b' = subst (λ (ds : List Definition). AddsAll now ds (Err e) new) same b in
     let front = adds_both old now new (flat_map f (take i bs)) (f (get_or bs i item)) (Err e) a b' in
     let parts : flat_map f bs ≡ (flat_map f (take i bs) ++ f (get_or bs i item)) ++ flat_map f (drop (i + 1) bs) =
-    ap (flat_map f) (sym (take-append-drop (i + 1) bs)) ∙ flat_map-append f (take (i + 1) bs) (drop (i + 1) bs) ∙ ap (λ (ds : List Definition). ds ++ flat_map f (drop (i + 1) bs)) (flat_one f bs i item lt) in
+    ap (flat_map f) (sym (take-append-drop (i + 1) bs)) ∙ flat_map-append f (take (i + 1) bs) (drop (i + 1) bs) ∙ ap (λ (ds : List Definition). ds ++ flat_map f (drop (i + 1) bs)) (flat_map-take f bs i item lt) in
     subst (λ (ds : List Definition). AddsAll old ds (Err e) new) (sym parts) (adds_fail old new (flat_map f (take i bs) ++ f (get_or bs i item)) (flat_map f (drop (i + 1) bs)) e front)
 
 -- ---- lists of what stands for others
@@ -70,7 +67,3 @@ adds_stop {B} f bs i item old now new e lt is a b =
 pub map-single : {A B : Type 0} (f : B → Definition) (g : A → B) (xs : List A) → flat_map (λ x. f (g x) ∷ []) xs ≡ map f (map g xs)
 map-single f g [] = refl
 map-single f g (x ∷ xs) = ap (λ (ds : List Definition). f (g x) ∷ ds) (map-single f g xs)
-
-pub flat_map-map : {A B : Type 0} (f : B → List Definition) (g : A → B) (xs : List A) → flat_map (λ x. f (g x)) xs ≡ flat_map f (map g xs)
-flat_map-map f g [] = refl
-flat_map-map f g (x ∷ xs) = ap (λ (ds : List Definition). f (g x) ++ ds) (flat_map-map f g xs)

@@ -1,39 +1,29 @@
 -- Each temporal unit of a sequence has a frame of each substream, and of no other.
-use Rattle.std.proofs.Common.{◌≡◌, ℕ, ◌+◌, ◌≤◌, ◌<◌, Bool, true, false, not, ◌&&◌, ◌||◌, cond, eqb, List, [], ◌∷◌, ◌++◌, refl, sym, ap, subst, ◌∙◌, inl, inr, append_assoc, append-nil, eqb-true, arith}
-use Rattle.std.specs.Prelude.{Option, Some, None}
-use Rattle.std.specs.List.{flat_map, list_all}
-use Rattle.std.proofs.lemmas.Bool.{cases_Bool, cases_lt, or_cases, or_left, and_parts, not-false}
+use Rattle.std.proofs.Common.{◌≡◌, ℕ, ◌+◌, ◌≤◌, ◌<◌, Bool, true, false, not, ◌&&◌, ◌||◌, cond, eqb, List, [], ◌∷◌, ◌++◌, refl, sym, ap, ◌∙◌, inl, inr, eqb-true, arith}
+use Rattle.std.specs.Prelude.{None}
+use Rattle.std.specs.List.{flat_map}
+use Rattle.std.proofs.lemmas.Bool.{cases_Bool, cases_lt, or_cases, or_left, not-false, false≢true}
 use Rattle.std.proofs.lemmas.List.Folds.{list_any-append}
-use Rattle.spec_sequence.specs.declared.fault.Fault.{Fault}
-use Rattle.spec_sequence.specs.declared.fault.Fault.TheVariants.{UnitFrame}
 use Rattle.spec_sequence.specs.declared.fault.Fault.TheVariants as fault
-use Rattle.spec_sequence.specs.Role.{Role, Ignored, SequenceHeader, CodecConfig, AudioElement, MixPresentation, Delimiter, ParameterBlock, AudioFrame, FrameRole}
-use Rattle.spec_sequence.specs.Descriptors.{substreams, substreams_of, codecs, channels_of}
+use Rattle.spec_sequence.specs.Role.{Role, Ignored, SequenceHeader, CodecConfig, AudioElement, MixPresentation, Delimiter, ParameterBlock, AudioFrame}
+use Rattle.spec_sequence.specs.Descriptors.{substreams, substreams_of}
 use Rattle.spec_sequence.specs.Units.{contains, is_none_of, is_data, stream_of, unit_after, open_unit, if_unit, placed, in_units, in_unit, streams_in, is_complete, unit_count}
-use Rattle.spec_sequence.specs.Rules.{when, first_of, has_bad_trim, codec_tests, fault_after, start_tests, has_short_unit, end_fault}
-use Rattle.iamf_admission.specs.Admitted.{AdmittedAfter, IsAdmitted}
-use Rattle.iamf_admission.proofs.Balance.{streams_in-push, streams_in-none, complete_is}
-use Rattle.iamf_admission.proofs.Stepping.{substreams-more}
-use Rattle.iamf_admission.proofs.Admitting.{balanced-admitted, counted-admitted}
+use Rattle.spec_sequence.specs.Rules.{fault_after, start_tests, has_short_unit, end_fault}
+use Rattle.spec_sequence.proofs.DescriptorLists.{substreams-more}
+use Rattle.spec_sequence.proofs.NoFault.{frame_none, last_none}
+use Rattle.spec_sequence.proofs.UnitLists.{streams_in-push, streams_in-none, complete_is}
+use Rattle.iamf_admission.specs.Admitted.{IsAdmitted}
+use Rattle.iamf_admission.proofs.Admitting.{balanced-admitted, counted-admitted, by_all}
+use Rattle.iamf_admission.proofs.Pigeons.{all_at}
 
 -- ---- frames are of known substreams
 
 abbrev AreKnown : List Role → Type 0
 AreKnown l = (u s : ℕ) → contains (streams_in u l) s ≡ true → contains (substreams l) s ≡ true
 
-first_none : (known seen : Bool) (rows : List (Option Fault)) → first_of (when (not known || seen) UnitFrame ∷ rows) ≡ None → known ≡ true
-first_none true seen rows e = refl
-first_none false seen rows e = absurd cc
-
-frame_known : (l : List Role) (f : FrameRole) → fault_after l (AudioFrame f) ≡ None → contains (substreams l) f.substream ≡ true
-unfolding fault_after
-frame_known l f late =
-    first_none (contains (substreams l) f.substream) (contains (streams_in (unit_after l (AudioFrame f)) l) f.substream)
-    (when (has_bad_trim l (unit_after l (AudioFrame f)) f.trim) fault.Trim ∷ codec_tests (codecs l) (channels_of l f.substream) f.length) late
-
 of_frame : (l : List Role) (o : Role) (s : ℕ) → fault_after l o ≡ None → contains (stream_of o) s ≡ true → contains (substreams l) s ≡ true
 of_frame l (AudioFrame f) s late has = elim (or_cases (eqb f.substream s) false has) [
-  | inl same ↦ ap (contains (substreams l)) (sym (eqb-true f.substream s same)) ∙ frame_known l f late
+  | inl same ↦ ap (contains (substreams l)) (sym (eqb-true f.substream s same)) ∙ (frame_none l f late).0
   | inr none ↦ absurd cc
 ]
 of_frame l Delimiter s late has = absurd cc
@@ -63,33 +53,13 @@ known_more l o known late u s has = ap (λ (ss : List ℕ). contains ss s) (subs
       | inr new ↦ of_frame l o s late (of_last o here s new)
     ]
 
-known_after : (l os : List Role) → AreKnown l → AdmittedAfter l os → AreKnown (l ++ os)
-known_after l [] known h = subst AreKnown (sym (append-nil l)) known
-known_after l (o ∷ os) known h = subst AreKnown (append_assoc l (o ∷ []) os) (known_after (l ++ o ∷ []) os (known_more l o known h.0.late) h.1)
-
 none_known : AreKnown []
-none_known u s has = absurd (clash (ap (λ (ss : List ℕ). contains ss s) (sym (streams_in-none u [] refl)) ∙ has)) where
-  clash : false ≡ true → ⊥
-  clash e = cc
+none_known u s has = absurd (false≢true (ap (λ (ss : List ℕ). contains ss s) (sym (streams_in-none u [] refl)) ∙ has))
 
 known_admitted : (l : List Role) → IsAdmitted l → AreKnown l
-unfolding IsAdmitted
-known_admitted l h = known_after [] l none_known h
+known_admitted l h = by_all AreKnown none_known (λ before o known none. known_more before o known none.late) l h
 
 -- ---- units are complete
-
-all_at : (p : ℕ → Bool) (xs : List ℕ) (x : ℕ) → list_all p xs ≡ true → contains xs x ≡ true → p x ≡ true
-all_at p [] x all there = absurd cc
-all_at p (y ∷ ys) x all there = elim (or_cases (eqb y x) (contains ys x) there) [
-  | inl same ↦ ap p (sym (eqb-true y x same)) ∙ (and_parts (p y) (list_all p ys) all).0
-  | inr rest ↦ all_at p ys x (and_parts (p y) (list_all p ys) all).1 rest
-]
-
-last_none : (rows : List (Option Fault)) (b : Bool) (f : Fault) → first_of (rows ++ when b f ∷ []) ≡ None → b ≡ false
-last_none [] true f e = absurd cc
-last_none [] false f e = refl
-last_none (None ∷ rows) b f e = last_none rows b f e
-last_none (Some x ∷ rows) b f e = absurd cc
 
 no_short : (l : List Role) → end_fault l ≡ None → is_none_of (in_units (λ u. not (is_complete u l)) l) ≡ true
 unfolding end_fault
@@ -99,17 +69,14 @@ no_short l e = not-false (is_none_of (in_units (λ u. not (is_complete u l)) l))
 none_in : (test : ℕ → Bool) (u : ℕ) (ps : List (ℕ × Role)) → test u ≡ true → is_none_of (flat_map (if_unit test) ps) ≡ true → is_none_of (flat_map (if_unit (λ v. eqb v u)) ps) ≡ true
 none_in test u [] passes none = refl
 none_in test u (p ∷ ps) passes none = elim (cases_Bool (test p.0)) [
-  | inl in_it ↦ absurd (some (rw in_it at none))
+  | inl in_it ↦ absurd (false≢true (rw in_it at none))
   | inr out ↦
       let rest : is_none_of (flat_map (if_unit test) ps) ≡ true = rw out at none in
       rw (apart out) (none_in test u ps passes rest)
 ] where
-  some : false ≡ true → ⊥
-  some e = cc
-
   apart : test p.0 ≡ false → eqb p.0 u ≡ false
   apart out = elim (cases_Bool (eqb p.0 u)) [
-    | inl same ↦ absurd (some (sym out ∙ ap test (eqb-true p.0 u same) ∙ passes))
+    | inl same ↦ absurd (false≢true (sym out ∙ ap test (eqb-true p.0 u same) ∙ passes))
     | inr other ↦ other
   ]
 
@@ -121,10 +88,8 @@ complete_open : (l : List Role) (b : Bool) → end_fault l ≡ None → is_none_
 complete_open l true whole is below = absurd (omega arith)
 complete_open l false whole is below = elim (cases_Bool (is_complete (open_unit l) l)) [
   | inl full ↦ full
-  | inr short ↦ absurd (clash (sym is ∙ none_of_unit l (open_unit l) whole short))
-] where
-  clash : false ≡ true → ⊥
-  clash e = cc
+  | inr short ↦ absurd (false≢true (sym is ∙ none_of_unit l (open_unit l) whole short))
+]
 
 complete_unit : (l : List Role) (u : ℕ) → IsAdmitted l → end_fault l ≡ None → u < unit_count l → is_complete u l ≡ true
 complete_unit l u admitted whole below = elim (cases_lt u (open_unit l)) [

@@ -1,35 +1,18 @@
 -- Of which unit the next data OBU is.
-use Rattle.std.proofs.Common.{◌≡◌, ℕ, ◌+◌, ◌-◌, Bool, true, false, not, ◌&&◌, cond, List, [], ◌∷◌, ◌++◌, refl, sym, ap, subst, ◌∙◌, inl, inr, append_assoc, append-nil, arith, true≢false, add-zero}
-use Rattle.std.specs.Prelude.{fold, Option, None}
+use Rattle.std.proofs.Common.{◌≡◌, ℕ, ◌+◌, Bool, true, false, cond, List, [], ◌∷◌, ◌++◌, refl, sym, ap, subst, ◌∙◌, inl, inr, append_assoc, append-nil, arith, true≢false, add-zero}
+use Rattle.std.specs.Prelude.{None}
 use Rattle.std.specs.List.{list_any}
 use Rattle.std.proofs.lemmas.Bool.{cases_Bool}
-use Rattle.std.proofs.lemmas.Grind.{fold-append}
-use Rattle.spec_sequence.specs.declared.fault.Fault.{Fault}
-use Rattle.spec_sequence.specs.declared.fault.Fault.TheVariants.{UnitShort}
-use Rattle.spec_sequence.specs.declared.fault.Fault.TheVariants as fault
 use Rattle.spec_sequence.specs.Role.{Role, Delimiter, ParameterBlock, AudioFrame, Ignored, SequenceHeader, CodecConfig, AudioElement, MixPresentation}
-use Rattle.spec_sequence.specs.Units.{is_none_of, is_data, is_delimiter, is_delimited, delimiters, open_unit, unit_after, placed, in_unit, is_complete, unit_count}
-use Rattle.spec_sequence.specs.Rules.{when, first_of, fault_after}
+use Rattle.spec_sequence.specs.Units.{is_none_of, is_data, is_delimiter, is_delimited, delimiters, open_unit, unit_after, in_unit, unit_count}
+use Rattle.spec_sequence.specs.Rules.{fault_after}
+use Rattle.spec_sequence.proofs.Placing.{is_delimited-kept, is_delimited-none, delimiters-push, unit_after-other, unit_after-delimiter, unit_count-push, unit_count-none}
+use Rattle.spec_sequence.proofs.NoFault.{delimiter_none}
+use Rattle.spec_sequence.proofs.OpenUnits.{is_delimited-quiet, delimiters-none, open_unit-delimiter, open_unit-ended}
 use Rattle.iamf_admission.specs.Admitted.{IsAdmitted, kind_of_role}
-use Rattle.iamf_admission.proofs.Placing.{placed_last, placed-push, is_delimited-kept, is_delimited-none, delimiters-push, unit_after-other, unit_after-delimiter}
-use Rattle.iamf_admission.proofs.Balance.{is_delimited-quiet, delimiters-none, open_unit-delimiter, open_unit-ended, no_placed}
 use Rattle.iamf_admission.proofs.Admitting.{counted-admitted}
-use Rattle.iamf_sequence.specs.DraftView.{IsOfUnit}
+use Rattle.iamf_sequence.specs.ReaderView.{IsOfUnit}
 use Rattle.iamf_sequence.specs.Numbers.{unit_between}
-
-abbrev after_last : ℕ → ℕ × Role → ℕ
-after_last n p = p.0 + 1
-
-count_more : (l : List Role) (o : Role) → unit_count (l ++ o ∷ []) ≡ cond (is_data o) (unit_after l o + 1) (unit_count l)
-unfolding unit_count
-count_more l o = ap (λ (ps : List (ℕ × Role)). fold after_last 0 ps) (placed-push l o) ∙ fold-append after_last 0 (placed l) (placed_last l o) ∙ one (is_data o) where
-  one : (b : Bool) → fold after_last (fold after_last 0 (placed l)) (cond b ((unit_after l o, o) ∷ []) []) ≡ cond b (unit_after l o + 1) (fold after_last 0 (placed l))
-  one true = refl
-  one false = refl
-
-count_none : (l : List Role) → list_any is_data l ≡ false → unit_count l ≡ 0
-unfolding unit_count placed
-count_none l none = ap (λ (ps : List (ℕ × Role)). fold after_last 0 ps) (no_placed [] l none)
 
 -- ---- with delimiters, the units are as many as these
 
@@ -40,14 +23,14 @@ marked_quiet : (l : List Role) (o : Role) → is_delimiter o ≡ false → AreMa
 marked_quiet l o other h = λ with.
     let before : is_delimited l ≡ true = sym (is_delimited-quiet l o other) ∙ with in
     let here : unit_after l o + 1 ≡ delimiters l = ap (λ u. u + 1) (unit_after-other l o other) ∙ open_unit-ended l before in
-    count_more l o ∙ one (is_data o) (unit_after l o + 1) here (h before) ∙ sym (delimiters-push l o ∙ rw other (add-zero (delimiters l)))
+    unit_count-push l o ∙ one (is_data o) (unit_after l o + 1) here (h before) ∙ sym (delimiters-push l o ∙ rw other (add-zero (delimiters l)))
   where
     one : (b : Bool) (n : ℕ) → n ≡ delimiters l → unit_count l ≡ delimiters l → cond b n (unit_count l) ≡ delimiters l
     one true n x y = x
     one false n x y = y
 
 marked_delimiter : (l : List Role) → AreMarked (l ++ Delimiter ∷ [])
-marked_delimiter l = λ with. count_more l Delimiter ∙ ap (λ u. u + 1) (unit_after-delimiter l with) ∙ sym (delimiters-push l Delimiter)
+marked_delimiter l = λ with. unit_count-push l Delimiter ∙ ap (λ u. u + 1) (unit_after-delimiter l with) ∙ sym (delimiters-push l Delimiter)
 
 marked_more : (l : List Role) (o : Role) → AreMarked l → AreMarked (l ++ o ∷ [])
 marked_more l Delimiter h = marked_delimiter l
@@ -68,22 +51,15 @@ marked l = marked_after [] l (λ with. absurd (true≢false (sym with ∙ is_del
 
 -- ---- a delimiter
 
-with_delimiter : (l : List Role) → fault_after l Delimiter ≡ None → is_delimited (l ++ Delimiter ∷ []) ≡ true
-unfolding fault_after
-with_delimiter l h = one (is_delimited (l ++ Delimiter ∷ [])) (when (list_any is_delimiter l && not (is_complete (unit_after l Delimiter - 1) l)) UnitShort) h where
-  one : (b : Bool) (row : Option Fault) → first_of (when (not b) fault.Delimiter ∷ row ∷ []) ≡ None → b ≡ true
-  one true row e = refl
-  one false row e = absurd cc
-
 begun : (l : List Role) → is_delimited (l ++ Delimiter ∷ []) ≡ true → unit_count l ≡ delimiters l
 begun l with = elim (cases_Bool (list_any is_data l)) [
   | inl has ↦ marked l (sym (is_delimited-kept l (Delimiter ∷ []) has) ∙ with)
-  | inr none ↦ count_none l none ∙ sym (delimiters-none l none)
+  | inr none ↦ unit_count-none l none ∙ sym (delimiters-none l none)
 ]
 
 of_delimiter : (l : List Role) → fault_after l Delimiter ≡ None → IsOfUnit (open_unit (l ++ Delimiter ∷ [])) l Delimiter
 of_delimiter l h =
-    let with = with_delimiter l h in
+    let with = (delimiter_none l h).0 in
     let is : open_unit (l ++ Delimiter ∷ []) ≡ delimiters l = open_unit-delimiter l with in
     let count : unit_count l ≡ delimiters l = begun l with in
     record { number = is ∙ sym (unit_after-delimiter l with); low = omega (arith, is, count); high = omega (arith, is, count) }

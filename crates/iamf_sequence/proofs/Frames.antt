@@ -6,7 +6,7 @@ use Rattle.std.specs.Fn.{Mut, ComputesKey}
 use Rattle.std.specs.Ordering.{is_lt, nat_cmp, ordering_index}
 use Rattle.std.specs.List.{All, AllByRecursion, IsDistinct, filter}
 use Rattle.std.specs.List.Sorted.{IsNonDecreasingBy, IsPermutation, IsPartitionPoint, IsSortedByKey, IsSortedByKeyClosure, IsStableByKey, ties}
-use Rattle.std.proofs.lemmas.Bool.{cases_lt, or_parts, and_parts, not-true}
+use Rattle.std.proofs.lemmas.Bool.{cases_lt, or_parts}
 use Rattle.std.proofs.lemmas.Bool.Decides.{nat_tests}
 use Rattle.std.proofs.lemmas.Cmp.{nat_cmp_total}
 use Rattle.std.proofs.lemmas.List.{get_or-map, length-map}
@@ -15,7 +15,8 @@ use Rattle.std.proofs.lemmas.List.Sorted.{IsNonDecreasingBy-from_sort, IsPermuta
 use Rattle.std.proofs.lemmas.Map.Keys.{IsDistinct-IsPermutation, apart_from_distinct}
 use Rattle.spec_sequence.specs.Units.{contains}
 use Rattle.spec_sequence.specs.Parts.{FrameValue}
-use Rattle.iamf_admission.proofs.Pigeons.{are_apart}
+use Rattle.spec_sequence.proofs.Basics.{flip}
+use Rattle.iamf_admission.proofs.Pigeons.{are_apart, apart_parts}
 use Rattle.obu_data.specs.declared.frame.FrameView.{FrameView}
 use Rattle.iamf_sequence.specs.declared.unit.Unit as temporal
 use Rattle.iamf_sequence.specs.UnitView.{view_frame, view_unit, HasTrim, frame_with, AreIncreasing, IsUnit}
@@ -123,15 +124,9 @@ same_found old (f ∷ fs) count stable s =
 
 -- ---- frames of substreams that differ
 
-flips : (a b : ℕ) → eqb a b ≡ eqb b a
-flips a b = grind (arith, nat_tests)
-
 others : (x : ℕ) (xs : List ℕ) → contains xs x ≡ false → AllByRecursion (λ y. eqb x y ≡ false) xs
 others x [] h = tt
-others x (y ∷ ys) h = let p = or_parts (eqb y x) (contains ys x) h in (flips x y ∙ p.0, others x ys p.1)
-
-apart_parts : (x : ℕ) (xs : List ℕ) → are_apart (x ∷ xs) ≡ true → (contains xs x ≡ false) × (are_apart xs ≡ true)
-apart_parts x xs h = let parts = and_parts (not (contains xs x)) (are_apart xs) h in (not-true (contains xs x) parts.0, parts.1)
+others x (y ∷ ys) h = let p = or_parts (eqb y x) (contains ys x) h in (flip x y ∙ p.0, others x ys p.1)
 
 distinct : (xs : List ℕ) → are_apart xs ≡ true → IsDistinct eqb xs
 unfolding IsDistinct
@@ -148,7 +143,7 @@ apart_at a b le e = grind (arith, nat_tests)
 increasing : (old new : List FrameView) → IsPermutation old new → IsNonDecreasingBy key new → are_apart (map (λ (f : FrameValue). f.substream) (map view_frame old)) ≡ true → AreIncreasing (map view_frame new)
 increasing old new moves up apart = from_rising new strict where
   differ : IsDistinct eqb (map key new)
-  differ = IsDistinct-IsPermutation eqb flips (map key old) (map key new) (IsPermutation-map key old new moves) (distinct (map key old) (ap are_apart (sym (keys_of_views old)) ∙ apart))
+  differ = IsDistinct-IsPermutation eqb flip (map key old) (map key new) (IsPermutation-map key old new moves) (distinct (map key old) (ap are_apart (sym (keys_of_views old)) ∙ apart))
 
   strict : (i j : ℕ) (d : FrameView) → i < j → j < length new → (get_or new i d).substream < (get_or new j d).substream
   strict i j d below lt =

@@ -1,29 +1,29 @@
 -- What is kept stands for one more OBU.
-use Rattle.std.proofs.Common.{Vec, Global, ◌≡◌, ℕ, Bool, true, false, not, ◌&&◌, eqb, leb, List, [], ◌∷◌, ◌++◌, map, refl, sym, ap, subst, ◌∙◌, inl, inr, append-nil, ne_eqb, arith}
+use Rattle.std.proofs.Common.{Vec, Global, ◌≡◌, ℕ, Bool, true, false, List, [], ◌∷◌, ◌++◌, map, refl, sym, ap, subst, ◌∙◌, inl, inr, append-nil}
 use Rattle.std.specs.Prelude.{Option, Some, None, Result, Ok, Err, OnOk, if◌then◌else◌}
 use Rattle.std.specs.List.{flat_map, All}
 use Rattle.std.proofs.lemmas.Bool.{cases_Bool}
-use Rattle.std.proofs.lemmas.Bool.Decides.{nat_tests}
 use Rattle.std.proofs.lemmas.List.{map-append}
 use Rattle.std.proofs.lemmas.List.Elements.{All-nil, All-push}
-use Rattle.std.proofs.lemmas.Grind.{flat_map-append}
-use Rattle.spec_obu.specs.Header.{Head}
 use Rattle.spec_descriptors.specs.SequenceHeader.{SequenceHeaderFields}
 use Rattle.spec_descriptors.specs.CodecConfig.{CodecConfigFields}
 use Rattle.spec_descriptors.specs.AudioElement.{AudioElementFields}
 use Rattle.spec_descriptors.specs.MixPresentation.{MixPresentationFields}
-use Rattle.spec_sequence.specs.Content.{Kind, kind_of, Context}
+use Rattle.spec_sequence.specs.Content.{kind_of}
 use Rattle.spec_sequence.specs.Content as specs
 use Rattle.spec_sequence.specs.Value.{ObuValue}
 use Rattle.spec_sequence.specs.Role.{role}
 use Rattle.spec_sequence.specs.Role as roles
 use Rattle.spec_sequence.specs.Units.{is_data, placed, unit_count}
 use Rattle.spec_sequence.specs.Parts.{of_plain, header_in, codec_in, element_in, mix_in, sequence_headers, codec_configs, audio_elements, mix_presentations, frame_of, block_of, UnitValue, temporal_units}
-use Rattle.spec_sequence.specs.Reading.{is_reserved, is_copy}
+use Rattle.spec_sequence.proofs.Basics.{flat_map-push}
+use Rattle.spec_sequence.proofs.KindsOfTypes.{delimiter_type, reserved_type}
+use Rattle.spec_sequence.proofs.RedundantCopies.{plain_of}
 use Rattle.obu_header.specs.View.{head_of}
 use Rattle.obu_header.specs.View as views
 use Rattle.obu_header.specs.declared.view.Trim.{Trim}
 use Rattle.obu_header.specs.declared.view.ObuHead.{ObuHead}
+use Rattle.obu_header.specs.declared.view.ObuView.{ObuView}
 use Rattle.obu_descriptors.specs.HeaderView.{view_header}
 use Rattle.obu_descriptors.specs.ElementView.{view_element}
 use Rattle.obu_descriptors.specs.declared.sequence_header.SequenceHeader.{SequenceHeader}
@@ -39,28 +39,25 @@ use Rattle.iamf_sequence.specs.declared.content.Content.{Content}
 use Rattle.iamf_sequence.specs.declared.content.Content.TheVariants as contents
 use Rattle.iamf_sequence.specs.declared.kept.Kept.{Kept}
 use Rattle.iamf_sequence.specs.declared.unit.Unit as temporal
-use Rattle.iamf_sequence.specs.ContentView.{IsElement, IsWhole, Holds, kind_in}
+use Rattle.iamf_sequence.specs.ContentView.{IsElement}
 use Rattle.iamf_sequence.specs.UnitView.{view_trim, view_frame, view_block_value, view_unit, HasTrim, opened, change_last, with_frame, with_block}
 use Rattle.iamf_sequence.specs.KeptView.{AreHeaders, AreCodecs, HasNoLater, Keeps}
-use Rattle.iamf_sequence.specs.DraftView.{AddsTo}
+use Rattle.iamf_sequence.specs.ReaderView.{AddsTo, IsSaid}
 use Rattle.iamf_sequence.proofs.Parting.{units-quiet, units-here, with_obu, later-none, later-quiet, later-here}
 
 -- ---- descriptors
 
-plain-push : {X : Type 0} (part : specs.Content → List X) (s : List ObuValue) (o : ObuValue) → flat_map (of_plain part) (s ++ o ∷ []) ≡ flat_map (of_plain part) s ++ of_plain part o
-plain-push part s o = flat_map-append (of_plain part) s (o ∷ []) ∙ ap (λ xs. flat_map (of_plain part) s ++ xs) (append-nil (of_plain part o))
-
 -- what one OBU says, in lists
-record Says (o : ObuValue) (hs : List SequenceHeaderFields) (cs : List CodecConfigFields) (es : List AudioElementFields) (ms : List MixPresentationFields) : Type 0 where
-  headers : of_plain header_in o ≡ hs
-  codecs : of_plain codec_in o ≡ cs
-  elements : of_plain element_in o ≡ es
-  mixes : of_plain mix_in o ≡ ms
+pub record Says (o : ObuValue) (hs : List SequenceHeaderFields) (cs : List CodecConfigFields) (es : List AudioElementFields) (ms : List MixPresentationFields) : Type 0 where
+  pub headers : of_plain header_in o ≡ hs
+  pub codecs : of_plain codec_in o ≡ cs
+  pub elements : of_plain element_in o ≡ es
+  pub mixes : of_plain mix_in o ≡ ms
 
-plain_says : (o : ObuValue) (c : specs.Content) → o.head.redundant ≡ false → o.content ≡ c → Says o (header_in c) (codec_in c) (element_in c) (mix_in c)
+pub plain_says : (o : ObuValue) (c : specs.Content) → o.head.redundant ≡ false → o.content ≡ c → Says o (header_in c) (codec_in c) (element_in c) (mix_in c)
 plain_says o c plain says = record { headers = rw (plain, says) refl; codecs = rw (plain, says) refl; elements = rw (plain, says) refl; mixes = rw (plain, says) refl }
 
-copy_says : (o : ObuValue) → o.head.redundant ≡ true → Says o [] [] [] []
+pub copy_says : (o : ObuValue) → o.head.redundant ≡ true → Says o [] [] [] []
 copy_says o copy = record { headers = rw copy refl; codecs = rw copy refl; elements = rw copy refl; mixes = rw copy refl }
 
 -- the lists of descriptors with those of the OBU
@@ -81,11 +78,11 @@ keeps_with : (k : Kept) (s : List ObuValue) (o : ObuValue) (hs : List SequenceHe
     → Says o hs cs es ms → AreKept k s hs cs es ms → AreUnitsKept k.units.items (s ++ o ∷ []) → Keeps k (s ++ o ∷ [])
 unfolding sequence_headers codec_configs audio_elements mix_presentations
 keeps_with k s o hs cs es ms says kept units = record {
-  header = subst (AreHeaders k.header) (sym (plain-push header_in s o ∙ ap (λ xs. flat_map (of_plain header_in) s ++ xs) says.headers)) kept.header;
-  codec = subst (AreCodecs k.codec) (sym (plain-push codec_in s o ∙ ap (λ xs. flat_map (of_plain codec_in) s ++ xs) says.codecs)) kept.codec;
-  elements = kept.elements ∙ sym (plain-push element_in s o ∙ ap (λ xs. flat_map (of_plain element_in) s ++ xs) says.elements);
+  header = subst (AreHeaders k.header) (sym (flat_map-push (of_plain header_in) s o ∙ ap (λ xs. flat_map (of_plain header_in) s ++ xs) says.headers)) kept.header;
+  codec = subst (AreCodecs k.codec) (sym (flat_map-push (of_plain codec_in) s o ∙ ap (λ xs. flat_map (of_plain codec_in) s ++ xs) says.codecs)) kept.codec;
+  elements = kept.elements ∙ sym (flat_map-push (of_plain element_in) s o ∙ ap (λ xs. flat_map (of_plain element_in) s ++ xs) says.elements);
   valid = kept.valid;
-  mixes = kept.mixes ∙ sym (plain-push mix_in s o ∙ ap (λ xs. flat_map (of_plain mix_in) s ++ xs) says.mixes);
+  mixes = kept.mixes ∙ sym (flat_map-push (of_plain mix_in) s o ∙ ap (λ xs. flat_map (of_plain mix_in) s ++ xs) says.mixes);
   units = units.units;
   trims = units.trims;
   later = units.later;
@@ -127,82 +124,47 @@ keeps_none k no_header no_codec no_element no_mix no_unit = record {
 pub keeps_copy : (k : Kept) (s : List ObuValue) (o : ObuValue) → Keeps k s → o.head.redundant ≡ true → Keeps k (s ++ o ∷ [])
 keeps_copy k s o keeps copy = keeps_with k s o [] [] [] [] (copy_says o copy) (kept_as_before k s keeps) (units_as_before k s o (rw copy refl) keeps)
 
--- ---- types
-
-reserved_kind : (n : ℕ) → is_reserved n ≡ true → kind_of n ≡ specs.Reserved
-reserved_kind n e = grind (arith, nat_tests)
-
--- an OBU that is no redundant copy is plain, unless it is reserved
-plain_of : (h : Head) (k : Kind) → is_copy h ≡ false → k ≡ kind_of h.kind → (k ≡ specs.Reserved → ⊥) → h.redundant ≡ false
-plain_of h k plain same other = one h.redundant (is_reserved h.kind) plain (λ r. other (same ∙ reserved_kind h.kind r)) where
-  one : (b r : Bool) → (b && not r) ≡ false → (r ≡ true → ⊥) → b ≡ false
-  one true true e never = absurd (never refl)
-  one true false e never = e
-  one false r e never = refl
-
-others : (a b c d f g : Bool)
-    → specs.TemporalDelimiter ≡ (if a then specs.SequenceHeader else if b then specs.CodecConfig else if c then specs.AudioElement else if d then specs.MixPresentation else if f then specs.ParameterBlock
-    else if false then specs.TemporalDelimiter else if g then specs.AudioFrame else specs.Reserved) → ⊥
-others true b c d f g e = cc
-others false true c d f g e = cc
-others false false true d f g e = cc
-others false false false true f g e = cc
-others false false false false true g e = cc
-others false false false false false true e = cc
-others false false false false false false e = cc
-
-delimiter_type : (n : ℕ) → specs.TemporalDelimiter ≡ kind_of n → eqb n 4 ≡ true
-delimiter_type n e = elim (cases_Bool (eqb n 4)) [ inl is ↦ is | inr other ↦ absurd (others (eqb n 31) (eqb n 0) (eqb n 1) (eqb n 2) (eqb n 3) (leb n 23) (rw other at e)) ]
-
-reserved_type : (n : ℕ) → specs.Reserved ≡ kind_of n → eqb n 4 ≡ false
-reserved_type n e = ne_eqb n 4 (λ same. apart (subst (λ m. specs.Reserved ≡ kind_of m) same e)) where
-  apart : specs.Reserved ≡ specs.TemporalDelimiter → ⊥
-  apart clash = cc
-
 -- ---- one OBU is kept
 
 -- what was kept of OBUs before is this with one more
 abbrev pub IsKeptBy : Kept → Kept → Content → ℕ → Type 0
-IsKeptBy old new content unit = (context : Context) (s : List ObuValue) (o : ObuValue) (head : ObuHead) (payload : List ℕ) → Keeps old s
-    → o.head ≡ head_of head → is_copy o.head ≡ false → Holds content head.trim payload o.content o.tail → IsWhole context content
-    → kind_in content ≡ kind_of o.head.kind → AddsTo unit s o
-    → (kind_in content ≡ specs.SequenceHeader → sequence_headers s ≡ []) → (kind_in content ≡ specs.CodecConfig → codec_configs s ≡ []) → Keeps new (s ++ o ∷ [])
+IsKeptBy old new content unit = (s : List ObuValue) (o : ObuValue) (view : ObuView) → Keeps old s → IsSaid content unit view s o → Keeps new (s ++ o ∷ [])
 
 pub keeps_header : (k : Kept) (h : SequenceHeader) (unit : ℕ) → IsKeptBy k (record k { header = Some h }) (contents.Header h) unit
-keeps_header k h unit context s o head payload keeps same plain holds whole kind adds first_header first_codec =
-    let p : o.head.redundant ≡ false = plain_of o.head specs.SequenceHeader plain kind (λ e. cc) in
+keeps_header k h unit s o view keeps said =
+    let p : o.head.redundant ≡ false = plain_of o.head specs.SequenceHeader said.plain said.kind (λ e. cc) in
     let old = kept_as_before k s keeps in
-    keeps_with (record k { header = Some h }) s o (view_header h ∷ []) [] [] [] (plain_says o (specs.Header (view_header h)) p holds.0)
-    (record { header = ap (λ hs. hs ++ view_header h ∷ []) (first_header refl); codec = old.codec; elements = old.elements; valid = old.valid; mixes = old.mixes })
-    (units_as_before k s o (rw (p, holds.0) refl) keeps)
+    keeps_with (record k { header = Some h }) s o (view_header h ∷ []) [] [] [] (plain_says o (specs.Header (view_header h)) p said.holds.0)
+    (record { header = ap (λ hs. hs ++ view_header h ∷ []) (said.first_header refl); codec = old.codec; elements = old.elements; valid = old.valid; mixes = old.mixes })
+    (units_as_before k s o (rw (p, said.holds.0) refl) keeps)
 
 pub keeps_codec : (k : Kept) (r : CodecConfig) (unit : ℕ) → IsKeptBy k (record k { codec = Some r }) (contents.Codec r) unit
-keeps_codec k r unit context s o head payload keeps same plain holds whole kind adds first_header first_codec =
-    let p : o.head.redundant ≡ false = plain_of o.head specs.CodecConfig plain kind (λ e. cc) in
+keeps_codec k r unit s o view keeps said =
+    let p : o.head.redundant ≡ false = plain_of o.head specs.CodecConfig said.plain said.kind (λ e. cc) in
     let old = kept_as_before k s keeps in
-    keeps_with (record k { codec = Some r }) s o [] (holds.0 ∷ []) [] [] (plain_says o (specs.Codec holds.0) p holds.2)
-    (record { header = old.header; codec = (holds.0, ap (λ cs. cs ++ holds.0 ∷ []) (first_codec refl), holds.1); elements = old.elements; valid = old.valid; mixes = old.mixes })
-    (units_as_before k s o (rw (p, holds.2) refl) keeps)
+    keeps_with (record k { codec = Some r }) s o [] (said.holds.0 ∷ []) [] [] (plain_says o (specs.Codec said.holds.0) p said.holds.2)
+    (record { header = old.header; codec = (said.holds.0, ap (λ cs. cs ++ said.holds.0 ∷ []) (said.first_codec refl), said.holds.1); elements = old.elements; valid = old.valid; mixes = old.mixes })
+    (units_as_before k s o (rw (p, said.holds.2) refl) keeps)
 
 pub keeps_element : (k : Kept) (es : Vec AudioElement Global) (e : AudioElement) (unit : ℕ) → es.items ≡ k.elements.items ++ e ∷ [] → IsKeptBy k (record k { elements = es }) (contents.Element e) unit
-keeps_element k es e unit more context s o head payload keeps same plain holds whole kind adds first_header first_codec =
-    let p : o.head.redundant ≡ false = plain_of o.head specs.AudioElement plain kind (λ e. cc) in
+keeps_element k es e unit more s o view keeps said =
+    let p : o.head.redundant ≡ false = plain_of o.head specs.AudioElement said.plain said.kind (λ e. cc) in
     let old = kept_as_before k s keeps in
-    keeps_with (record k { elements = es }) s o [] [] (view_element e ∷ []) [] (plain_says o (specs.Element (view_element e)) p holds.0)
+    keeps_with (record k { elements = es }) s o [] [] (view_element e ∷ []) [] (plain_says o (specs.Element (view_element e)) p said.holds.0)
     (record {
       header = old.header;
       codec = old.codec;
       elements = ap (map view_element) more ∙ map-append view_element k.elements.items (e ∷ []) ∙ ap (λ xs. xs ++ view_element e ∷ []) keeps.elements;
-      valid = rw more (All-push IsElement k.elements.items e keeps.valid (context.frame_length, whole));
+      valid = rw more (All-push IsElement k.elements.items e keeps.valid (said.whole.0.frame_length, said.whole.1));
       mixes = old.mixes;
     })
-    (units_as_before k s o (rw (p, holds.0) refl) keeps)
+    (units_as_before k s o (rw (p, said.holds.0) refl) keeps)
 
 pub keeps_mix : (k : Kept) (ms : Vec MixPresentation Global) (m : MixPresentation) (unit : ℕ) → ms.items ≡ k.mixes.items ++ m ∷ [] → IsKeptBy k (record k { mixes = ms }) (contents.Mix m) unit
-keeps_mix k ms m unit more context s o head payload keeps same plain holds whole kind adds first_header first_codec =
-    let p : o.head.redundant ≡ false = plain_of o.head specs.MixPresentation plain kind (λ e. cc) in
+keeps_mix k ms m unit more s o view keeps said =
+    let p : o.head.redundant ≡ false = plain_of o.head specs.MixPresentation said.plain said.kind (λ e. cc) in
     let old = kept_as_before k s keeps in
-    keeps_with (record k { mixes = ms }) s o [] [] [] (view_mix m ∷ []) (plain_says o (specs.Mix (view_mix m)) p holds.0)
+    keeps_with (record k { mixes = ms }) s o [] [] [] (view_mix m ∷ []) (plain_says o (specs.Mix (view_mix m)) p said.holds.0)
     (record {
       header = old.header;
       codec = old.codec;
@@ -210,15 +172,15 @@ keeps_mix k ms m unit more context s o head payload keeps same plain holds whole
       valid = old.valid;
       mixes = ap (map view_mix) more ∙ map-append view_mix k.mixes.items (m ∷ []) ∙ ap (λ xs. xs ++ view_mix m ∷ []) keeps.mixes;
     })
-    (units_as_before k s o (rw (p, holds.0) refl) keeps)
+    (units_as_before k s o (rw (p, said.holds.0) refl) keeps)
 
 -- a reserved OBU
-nothing_says : (o : ObuValue) → o.content ≡ specs.Nothing → Says o [] [] [] []
+pub nothing_says : (o : ObuValue) → o.content ≡ specs.Nothing → Says o [] [] [] []
 nothing_says o says = elim (cases_Bool o.head.redundant) [ inl copy ↦ copy_says o copy | inr plain ↦ plain_says o specs.Nothing plain says ]
 
 pub keeps_reserved : (k : Kept) (unit : ℕ) → IsKeptBy k k contents.Reserved unit
-keeps_reserved k unit context s o head payload keeps same plain holds whole kind adds first_header first_codec =
-    keeps_with k s o [] [] [] [] (nothing_says o holds.0) (kept_as_before k s keeps) (units_as_before k s o (rw (holds.0, reserved_type o.head.kind kind) (one o.head.redundant)) keeps)
+keeps_reserved k unit s o view keeps said =
+    keeps_with k s o [] [] [] [] (nothing_says o said.holds.0) (kept_as_before k s keeps) (units_as_before k s o (rw (said.holds.0, reserved_type o.head.kind (sym said.kind)) (one o.head.redundant)) keeps)
   where
     one : (b : Bool) → is_data (if b then roles.Ignored else roles.Ignored) ≡ false
     one true = refl
@@ -226,12 +188,12 @@ keeps_reserved k unit context s o head payload keeps same plain holds whole kind
 
 -- ---- data OBUs
 
-change_last-same : (f g : UnitValue → UnitValue) → ((v : UnitValue) → f v ≡ g v) → (vs : List UnitValue) → change_last f vs ≡ change_last g vs
+pub change_last-same : (f g : UnitValue → UnitValue) → ((v : UnitValue) → f v ≡ g v) → (vs : List UnitValue) → change_last f vs ≡ change_last g vs
 change_last-same f g same [] = refl
 change_last-same f g same (v ∷ []) = ap (λ (w : UnitValue). w ∷ []) (same v)
 change_last-same f g same (v ∷ w ∷ vs) = ap (λ (ws : List UnitValue). v ∷ ws) (change_last-same f g same (w ∷ vs))
 
-change_last-none : (vs : List UnitValue) → change_last (λ v. v) vs ≡ vs
+pub change_last-none : (vs : List UnitValue) → change_last (λ v. v) vs ≡ vs
 change_last-none [] = refl
 change_last-none (v ∷ []) = refl
 change_last-none (v ∷ w ∷ vs) = ap (λ (ws : List UnitValue). v ∷ ws) (change_last-none (w ∷ vs))
@@ -251,18 +213,18 @@ trims_are : (t : Option Trim) → roles.trim_of (views.trim_of t) ≡ view_trim 
 trims_are None = refl
 trims_are (Some t) = refl
 
-frame_is : (o : ObuValue) (f : FrameView) (head : ObuHead) → o.head ≡ head_of head → o.content ≡ specs.Frame f.substream → o.tail ≡ f.bytes.now → f.trim ≡ trim_or_none head.trim → frame_of o ≡ view_frame f ∷ []
+pub frame_is : (o : ObuValue) (f : FrameView) (head : ObuHead) → o.head ≡ head_of head → o.content ≡ specs.Frame f.substream → o.tail ≡ f.bytes.now → f.trim ≡ trim_or_none head.trim → frame_of o ≡ view_frame f ∷ []
 frame_is o f head same content tail trim = rw (content, tail, same, trim, trims_are head.trim) refl
 
-frame_change : (o : ObuValue) (f : FrameView) → frame_of o ≡ view_frame f ∷ [] → block_of o ≡ [] → (v : UnitValue) → with_frame f v ≡ with_obu o v
+pub frame_change : (o : ObuValue) (f : FrameView) → frame_of o ≡ view_frame f ∷ [] → block_of o ≡ [] → (v : UnitValue) → with_frame f v ≡ with_obu o v
 unfolding with_obu
 frame_change o f frames blocks v = rw (frames, blocks, append-nil) refl
 
-block_change : (o : ObuValue) (b : ParameterBlock) → frame_of o ≡ [] → block_of o ≡ view_block_value b ∷ [] → (v : UnitValue) → with_block b v ≡ with_obu o v
+pub block_change : (o : ObuValue) (b : ParameterBlock) → frame_of o ≡ [] → block_of o ≡ view_block_value b ∷ [] → (v : UnitValue) → with_block b v ≡ with_obu o v
 unfolding with_obu
 block_change o b frames blocks v = rw (frames, blocks, append-nil) refl
 
-no_change : (o : ObuValue) → frame_of o ≡ [] → block_of o ≡ [] → (v : UnitValue) → v ≡ with_obu o v
+pub no_change : (o : ObuValue) → frame_of o ≡ [] → block_of o ≡ [] → (v : UnitValue) → v ≡ with_obu o v
 unfolding with_obu
 no_change o frames blocks v = rw (frames, blocks, append-nil, append-nil) refl
 
@@ -274,28 +236,28 @@ abbrev pub KeepTrims : Kept → Vec temporal.Unit Global → Type 0
 KeepTrims k units = All HasTrim k.units.items → All HasTrim units.items
 
 pub keeps_frame : (k : Kept) (units : Vec temporal.Unit Global) (f : FrameView) (unit : ℕ) → Changed k units unit (with_frame f) → KeepTrims k units → IsKeptBy k (record k { units = units }) (contents.Frame f) unit
-keeps_frame k units f unit is trims context s o head payload keeps same plain holds whole kind adds first_header first_codec =
-    let p : o.head.redundant ≡ false = plain_of o.head specs.AudioFrame plain kind (λ e. cc) in
+keeps_frame k units f unit is trims s o view keeps said =
+    let p : o.head.redundant ≡ false = plain_of o.head specs.AudioFrame said.plain said.kind (λ e. cc) in
     let old = kept_as_before k s keeps in
-    keeps_with (record k { units = units }) s o [] [] [] [] (plain_says o (specs.Frame f.substream) p holds.0)
+    keeps_with (record k { units = units }) s o [] [] [] [] (plain_says o (specs.Frame f.substream) p said.holds.0)
     (record { header = old.header; codec = old.codec; elements = old.elements; valid = old.valid; mixes = old.mixes })
-    (units_with k units.items s o unit (with_frame f) (frame_change o f (frame_is o f head same holds.0 holds.1 holds.2) (rw holds.0 refl)) (rw (p, holds.0) refl) adds keeps is trims)
+    (units_with k units.items s o unit (with_frame f) (frame_change o f (frame_is o f view.head said.head said.holds.0 said.holds.1 said.holds.2) (rw said.holds.0 refl)) (rw (p, said.holds.0) refl) said.adds keeps is trims)
 
 pub keeps_block : (k : Kept) (units : Vec temporal.Unit Global) (b : ParameterBlock) (unit : ℕ) → Changed k units unit (with_block b) → KeepTrims k units → IsKeptBy k (record k { units = units }) (contents.Block b) unit
-keeps_block k units b unit is trims context s o head payload keeps same plain holds whole kind adds first_header first_codec =
-    let p : o.head.redundant ≡ false = plain_of o.head specs.ParameterBlock plain kind (λ e. cc) in
+keeps_block k units b unit is trims s o view keeps said =
+    let p : o.head.redundant ≡ false = plain_of o.head specs.ParameterBlock said.plain said.kind (λ e. cc) in
     let old = kept_as_before k s keeps in
-    keeps_with (record k { units = units }) s o [] [] [] [] (plain_says o (specs.Block (view_block b)) p holds.0)
+    keeps_with (record k { units = units }) s o [] [] [] [] (plain_says o (specs.Block (view_block b)) p said.holds.0)
     (record { header = old.header; codec = old.codec; elements = old.elements; valid = old.valid; mixes = old.mixes })
-    (units_with k units.items s o unit (with_block b) (block_change o b (rw holds.0 refl) (rw (holds.0, holds.1) refl)) (rw (p, holds.0) refl) adds keeps is trims)
+    (units_with k units.items s o unit (with_block b) (block_change o b (rw said.holds.0 refl) (rw (said.holds.0, said.holds.1) refl)) (rw (p, said.holds.0) refl) said.adds keeps is trims)
 
 pub keeps_delimiter : (k : Kept) (units : Vec temporal.Unit Global) (unit : ℕ) → map view_unit units.items ≡ opened unit (map view_unit k.units.items) → KeepTrims k units → IsKeptBy k (record k { units = units }) contents.Delimiter unit
-keeps_delimiter k units unit is trims context s o head payload keeps same plain holds whole kind adds first_header first_codec =
-    let p : o.head.redundant ≡ false = plain_of o.head specs.TemporalDelimiter plain kind (λ e. cc) in
+keeps_delimiter k units unit is trims s o view keeps said =
+    let p : o.head.redundant ≡ false = plain_of o.head specs.TemporalDelimiter said.plain said.kind (λ e. cc) in
     let old = kept_as_before k s keeps in
-    keeps_with (record k { units = units }) s o [] [] [] [] (nothing_says o holds.0)
+    keeps_with (record k { units = units }) s o [] [] [] [] (nothing_says o said.holds.0)
     (record { header = old.header; codec = old.codec; elements = old.elements; valid = old.valid; mixes = old.mixes })
-    (units_with k units.items s o unit (λ v. v) (no_change o (rw holds.0 refl) (rw holds.0 refl)) (rw (p, holds.0, delimiter_type o.head.kind kind) refl) adds keeps
+    (units_with k units.items s o unit (λ v. v) (no_change o (rw said.holds.0 refl) (rw said.holds.0 refl)) (rw (p, said.holds.0, delimiter_type o.head.kind (sym said.kind)) refl) said.adds keeps
     (is ∙ sym (change_last-none (opened unit (map view_unit k.units.items)))) trims)
 
 -- ---- unless memory ran out

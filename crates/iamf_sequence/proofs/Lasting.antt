@@ -1,26 +1,28 @@
 -- What the payload of an OBU of a sequence says after all of its OBUs.
-use Rattle.std.proofs.Common.{◌≡◌, ℕ, Bool, true, false, not, ◌&&◌, ◌||◌, ◌==◌, inl, inr, List, [], ◌∷◌, ◌++◌, fold, refl, sym, ap, ◌∙◌, append-nil, true≢false}
+use Rattle.std.proofs.Common.{◌≡◌, ℕ, Bool, true, false, not, ◌||◌, inl, inr, List, [], ◌∷◌, ◌++◌, fold, refl, sym, ap, ◌∙◌, append-nil, true≢false}
 use Rattle.std.specs.Prelude.{None, is_some}
 use Rattle.std.specs.List.{list_any, flat_map}
-use Rattle.std.specs.Str.{bytes_eq}
-use Rattle.std.proofs.lemmas.Bool.{cases_Bool, or_cases, or_right, and_parts, not-true, eqb-true}
-use Rattle.std.proofs.lemmas.List.{map-append}
+use Rattle.std.proofs.lemmas.Bool.{cases_Bool, or_cases, or_right, and_parts}
 use Rattle.std.proofs.lemmas.List.Folds.{list_any-append}
 use Rattle.std.proofs.lemmas.Grind.{flat_map-append}
 use Rattle.spec_obu.specs.Header.{Head, Header}
 use Rattle.spec_obu.specs.Kinds.{is_audio_frame, is_descriptor_or_reserved}
 use Rattle.spec_blocks.specs.Shape.{Definition, with_definition}
-use Rattle.spec_sequence.specs.declared.fault.Fault.{Fault}
 use Rattle.spec_sequence.specs.declared.fault.Fault.TheVariants as fault
 use Rattle.spec_sequence.specs.Content.{AudioElement, ParameterBlock, kind_of, Content, Context, Says, PayloadOf}
-use Rattle.spec_sequence.specs.Role.{CodecRole, Role, role_in}
+use Rattle.spec_sequence.specs.Role.{CodecRole, role_in}
 use Rattle.spec_sequence.specs.Role as role
-use Rattle.spec_sequence.specs.Descriptors.{codec_of, codecs, definitions_of, definitions, first_length, frame_length, context_of}
+use Rattle.spec_sequence.specs.Descriptors.{codec_of, codecs, definitions_of, definitions, context_of}
 use Rattle.spec_sequence.specs.Units.{is_data}
-use Rattle.spec_sequence.specs.Rules.{when}
 use Rattle.spec_sequence.specs.Reading.{Entry, roles, context_after, is_copy, is_copied, is_repeated, early_fault, AdmittedAfter}
-use Rattle.spec_sequence.proofs.FixedContext.{LacksElements, Keeps, keeps-push}
-use Rattle.iamf_sequence.proofs.WholeContext.{element_type, block_type, says_elsewhere, element_content, block_content, none_defined, roles-push}
+use Rattle.spec_sequence.proofs.FixedContext.{LacksElements, Keeps, keeps-push, length_stays}
+use Rattle.spec_sequence.proofs.KindsOfTypes.{element_type, block_type}
+use Rattle.spec_sequence.proofs.Contents.{says_elsewhere, element_content, block_content}
+use Rattle.spec_sequence.proofs.Roles.{roles_more, roles-append}
+use Rattle.spec_sequence.proofs.DescriptorLists.{codecs-push}
+use Rattle.spec_sequence.proofs.NoFault.{is_there}
+use Rattle.spec_sequence.proofs.RedundantCopies.{early_copy, copied_parts}
+use Rattle.iamf_sequence.proofs.NoDefinition.{none_defined}
 
 -- ---- an element has a codec config before it
 
@@ -32,55 +34,31 @@ lacks_copied : (past : List Entry) (h : Head) (payload : List ℕ) → LacksElem
 lacks_copied [] h payload lacks element e = cc
 lacks_copied (x ∷ xs) h payload lacks element e = elim (or_cases (is_copied h payload x) (is_repeated xs h payload) e) [
   | inl here ↦
-      let a = and_parts (not x.value.head.redundant) ((x.value.head.kind == h.kind) && bytes_eq x.payload payload) here in
-      let b = and_parts (x.value.head.kind == h.kind) (bytes_eq x.payload payload) a.1 in
-      let kinds : x.value.head.kind ≡ h.kind = eqb-true x.value.head.kind h.kind b.0 in
-      lacks.0 (not-true x.value.head.redundant a.0) (ap kind_of kinds ∙ element)
+      let parts = copied_parts h payload x here in
+      lacks.0 parts.0 (ap kind_of parts.1 ∙ element)
   | inr there ↦ lacks_copied xs h payload lacks.1 element there
 ]
 
-is_there : (b : Bool) (f : Fault) → when (not b) f ≡ None → b ≡ true
-is_there true f e = refl
-is_there false f e = absurd cc
-
-early_copy : (past : List Entry) (h : Head) (payload : List ℕ) → is_copy h ≡ true → early_fault past h payload ≡ None → is_repeated past h payload ≡ true
-unfolding early_fault
-early_copy past h payload copy e = is_there (is_repeated past h payload) fault.Redundant (rw copy at e)
+copy_repeats : (past : List Entry) (h : Head) (payload : List ℕ) → is_copy h ≡ true → early_fault past h payload ≡ None → is_repeated past h payload ≡ true
+copy_repeats past h payload copy none = is_there (is_repeated past h payload) fault.Redundant (sym (early_copy past h payload copy) ∙ none)
 
 element_copy : (h : Head) → h.redundant ≡ true → kind_of h.kind ≡ AudioElement → is_copy h ≡ true
 element_copy h redundant element = rw (redundant, element_type h.kind element) refl
-
-codecs-push : (past : List Entry) (e : Entry) → codecs (roles (past ++ e ∷ [])) ≡ codecs (roles past) ++ codec_of (role.role e.value)
-unfolding codecs
-codecs-push past e =
-    ap (flat_map codec_of) (roles-push past e) ∙ flat_map-append codec_of (roles past) (role.role e.value ∷ []) ∙ ap (λ (x : List CodecRole). flat_map codec_of (roles past) ++ x) (append-nil (codec_of (role.role e.value)))
 
 element_no_codec : (context : Context) (h : Head) (c : Content) (tail payload : List ℕ) → h.redundant ≡ false → kind_of h.kind ≡ AudioElement → Says context h.kind (kind_of h.kind) c tail payload → codec_of (role_in h c tail) ≡ []
 element_no_codec context h c tail payload plain is says = let x = element_content context h.kind (kind_of h.kind) c tail payload is says in rw (plain, x.1) refl
 
 has_codec : (past : List Entry) (bytes : List ℕ) (e : Entry) (es : List Entry) → Keeps past → AdmittedAfter past bytes (e ∷ es) → kind_of e.value.head.kind ≡ AudioElement → codecs (roles past) ≡ [] → ⊥
 has_codec past bytes e es keeps h element none = elim (cases_Bool e.value.head.redundant) [
-  | inl redundant ↦ lacks_copied past e.value.head e.payload (keeps.first none) element (early_copy past e.value.head e.payload (element_copy e.value.head redundant element) h.4.early)
+  | inl redundant ↦ lacks_copied past e.value.head e.payload (keeps.first none) element (copy_repeats past e.value.head e.payload (element_copy e.value.head redundant element) h.4.early)
   | inr plain ↦
       let after = keeps-push past e keeps h.3.payload_is h.4 in
       let still : codecs (roles (past ++ e ∷ [])) ≡ [] =
-      codecs-push past e ∙ ap (λ (x : List CodecRole). x ++ codec_of (role.role e.value)) none ∙ element_no_codec (context_after past) e.value.head e.value.content e.value.tail e.payload plain element h.3.payload_is.says in
+      ap codecs (roles_more past e) ∙ codecs-push (roles past) (role.role e.value) ∙ ap (λ (x : List CodecRole). x ++ codec_of (role.role e.value)) none ∙ element_no_codec (context_after past) e.value.head e.value.content e.value.tail e.payload plain element h.3.payload_is.says in
       last_lacks past e (after.first still) plain element
 ]
 
 -- ---- the frame length and the definitions of the whole list
-
-roles-append : (past es : List Entry) → roles (past ++ es) ≡ roles past ++ roles es
-roles-append past es = map-append (λ (x : Entry). role.role x.value) past es
-
-same_first : (xs ys : List CodecRole) → (xs ≡ [] → ⊥) → first_length xs ≡ first_length (xs ++ ys)
-same_first [] ys lacks = absurd (lacks refl)
-same_first (x ∷ xs) ys lacks = refl
-
-same_length : (past es : List Entry) → (codecs (roles past) ≡ [] → ⊥) → frame_length (roles past) ≡ frame_length (roles (past ++ es))
-unfolding frame_length codecs
-same_length past es some =
-    same_first (flat_map codec_of (roles past)) (flat_map codec_of (roles es)) some ∙ ap first_length (sym (flat_map-append codec_of (roles past) (roles es))) ∙ ap (λ (l : List Role). first_length (flat_map codec_of l)) (sym (roles-append past es))
 
 same_definitions : (past es : List Entry) → flat_map definitions_of (roles es) ≡ [] → definitions (roles past) ≡ definitions (roles (past ++ es))
 unfolding definitions
@@ -110,7 +88,7 @@ later_none past bytes e es h block =
     let plain = block_plain e.value.head e.payload h.0 h.3.header block in
     let is = block_role (context_after past) e.value.head e.value.content e.value.tail e.payload plain block h.3.payload_is.says in
     let begun : list_any is_data (roles (past ++ e ∷ [])) ≡ true =
-    ap (list_any is_data) (roles-push past e) ∙ list_any-append is_data (roles past) (role.role e.value ∷ []) ∙ or_right (list_any is_data (roles past)) (list_any is_data (role.role e.value ∷ [])) (rw is.0 refl) in
+    ap (list_any is_data) (roles_more past e) ∙ list_any-append is_data (roles past) (role.role e.value ∷ []) ∙ or_right (list_any is_data (roles past)) (list_any is_data (role.role e.value ∷ [])) (rw is.0 refl) in
     let others = none_defined (past ++ e ∷ []) h.1 es begun h.5 in
     let first : definitions_of (role.role e.value) ≡ [] = is.1 in
     rw (first, others) refl
@@ -125,7 +103,7 @@ lasting past bytes e es keeps h =
     let k = kind_of e.value.head.kind in
     record {
       says = says_elsewhere (context_after past) (context_after (past ++ all)) e.value.head.kind k e.value.content e.value.tail e.payload
-          (λ (element : k ≡ AudioElement). same_length past all (has_codec past bytes e es keeps h element))
+          (λ (element : k ≡ AudioElement). sym (length_stays past all (has_codec past bytes e es keeps h element)))
           (λ (block : k ≡ ParameterBlock). same_definitions past all (later_none past bytes e es h block))
           is.says;
       bytes = is.bytes;

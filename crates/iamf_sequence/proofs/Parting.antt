@@ -1,16 +1,16 @@
 -- What one more OBU at the end changes in the units of a sequence.
 use Rattle.std.proofs.Common.{◌≡◌, ◌⊎◌, ℕ, zero, suc, ◌+◌, ◌≤◌, ◌<◌, Bool, true, false, ◌&&◌, cond, ltb, List, [], ◌∷◌, ◌++◌, length, length-append, map, refl, sym, ap, ◌∙◌, inl, inr, append_assoc, append-nil, add-one, eq-eqb, ne_eqb, le-ltb, arith}
-use Rattle.std.specs.Prelude.{if◌then◌else◌, ◌==◌, fold}
+use Rattle.std.specs.Prelude.{if◌then◌else◌, ◌==◌}
 use Rattle.std.specs.List.{flat_map}
 use Rattle.std.proofs.lemmas.Bool.{cases_lt}
 use Rattle.std.proofs.lemmas.Bool.Decides.{nat_tests}
-use Rattle.std.proofs.lemmas.List.{map-append}
-use Rattle.std.proofs.lemmas.Grind.{flat_map-append, fold-append}
+use Rattle.std.proofs.lemmas.Grind.{flat_map-append}
 use Rattle.spec_sequence.specs.Value.{ObuValue}
 use Rattle.spec_sequence.specs.Role.{Role, role}
-use Rattle.spec_sequence.specs.Units.{is_data, unit_after, placed, unit_count}
+use Rattle.spec_sequence.specs.Units.{is_data, unit_after, unit_count}
 use Rattle.spec_sequence.specs.Parts.{roles_of, frame_of, block_of, numbered_after, if_of_unit, obus_of, UnitValue, unit_value, units_up_to, temporal_units}
-use Rattle.iamf_admission.proofs.Placing.{placed_last, placed-push}
+use Rattle.spec_sequence.proofs.Placing.{unit_count-push}
+use Rattle.spec_sequence.proofs.Roles.{roles_of_more}
 use Rattle.iamf_sequence.specs.UnitView.{opened, change_last}
 use Rattle.iamf_sequence.specs.KeptView.{HasNoLater}
 
@@ -54,25 +54,12 @@ obus_of-here u s o data_obu number = obus_of-push u s o ∙ rw (sym number, data
 
 -- ---- how many units are begun
 
-pub roles_of-push : (s : List ObuValue) (o : ObuValue) → roles_of (s ++ o ∷ []) ≡ roles_of s ++ role o ∷ []
-roles_of-push s o = map-append role s (o ∷ [])
-
-abbrev next_after : ℕ → ℕ × Role → ℕ
-next_after n p = p.0 + 1
-
-unit_count-push : (l : List Role) (o : Role) → unit_count (l ++ o ∷ []) ≡ cond (is_data o) (unit_after l o + 1) (unit_count l)
-unfolding unit_count
-unit_count-push l o = ap (λ (ps : List (ℕ × Role)). fold next_after 0 ps) (placed-push l o) ∙ fold-append next_after 0 (placed l) (placed_last l o) ∙ one (is_data o) where
-  one : (b : Bool) → fold next_after (fold next_after 0 (placed l)) (cond b ((unit_after l o, o) ∷ []) []) ≡ cond b (unit_after l o + 1) (fold next_after 0 (placed l))
-  one true = refl
-  one false = refl
-
 pub count-quiet : (s : List ObuValue) (o : ObuValue) → is_data (role o) ≡ false → unit_count (roles_of (s ++ o ∷ [])) ≡ unit_count (roles_of s)
-count-quiet s o quiet = ap unit_count (roles_of-push s o) ∙ unit_count-push (roles_of s) (role o) ∙ ap (λ b. cond b (unit_after (roles_of s) (role o) + 1) (unit_count (roles_of s))) quiet
+count-quiet s o quiet = ap unit_count (roles_of_more s o) ∙ unit_count-push (roles_of s) (role o) ∙ ap (λ b. cond b (unit_after (roles_of s) (role o) + 1) (unit_count (roles_of s))) quiet
 
 pub count-here : (u : ℕ) (s : List ObuValue) (o : ObuValue) → is_data (role o) ≡ true → u ≡ unit_after (roles_of s) (role o) → unit_count (roles_of (s ++ o ∷ [])) ≡ u + 1
 count-here u s o data_obu number =
-    ap unit_count (roles_of-push s o) ∙ unit_count-push (roles_of s) (role o) ∙ ap (λ b. cond b (unit_after (roles_of s) (role o) + 1) (unit_count (roles_of s))) data_obu
+    ap unit_count (roles_of_more s o) ∙ unit_count-push (roles_of s) (role o) ∙ ap (λ b. cond b (unit_after (roles_of s) (role o) + 1) (unit_count (roles_of s))) data_obu
     ∙ ap (λ n. n + 1) (sym number)
 
 -- ---- the units

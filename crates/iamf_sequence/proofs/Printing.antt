@@ -2,15 +2,17 @@
 use Rattle.std.proofs.Common.{◌≡◌, ℕ, List, [], ◌∷◌, ◌++◌, map, refl, sym, ap, ◌∙◌, append-nil}
 use Rattle.std.specs.List.{flat_map}
 use Rattle.std.proofs.lemmas.List.Folds.{flat_map-map}
+use Rattle.spec_descriptors.specs.SequenceHeader.{SequenceHeaderFields}
 use Rattle.spec_descriptors.specs.CodecConfig.{CodecConfigFields}
 use Rattle.spec_descriptors.specs.AudioElement.{AudioElementFields}
 use Rattle.spec_descriptors.specs.MixPresentation.{MixPresentationFields}
 use Rattle.spec_sequence.specs.Value.{ObuValue}
-use Rattle.spec_sequence.specs.Role.{Role, CodecRole, codec_role}
+use Rattle.spec_sequence.specs.Role.{Role, CodecRole, role_of_codec}
 use Rattle.spec_sequence.specs.Parts.{roles_of, sequence_headers, codec_configs, audio_elements, mix_presentations}
 use Rattle.spec_sequence.specs.Report.{header_line, codec_line, element_line, mix_line, counts, report}
 use Rattle.iamf_sequence.specs.Lines.{profile_text, codec_text, element_text, mix_text, count_text, printed}
-use Rattle.iamf_sequence.specs.Summing.{IsCodecLine, IsElementLine, IsMixLine, AreElementLines, AreMixLines, IsSummary}
+use Rattle.iamf_sequence.specs.Summing.{IsProfileLine, IsCodecLine, IsElementLine, IsMixLine, AreElementLines, AreMixLines, IsSummary}
+use Rattle.iamf_sequence.specs.declared.lines.ProfileLine.{ProfileLine}
 use Rattle.iamf_sequence.specs.declared.lines.CodecLine.{CodecLine}
 use Rattle.iamf_sequence.specs.declared.lines.ElementLine.{ElementLine}
 use Rattle.iamf_sequence.specs.declared.lines.MixLine.{MixLine}
@@ -42,11 +44,13 @@ only_codec : (x : CodecLine) (f : CodecConfigFields → CodecRole) (cs : List Co
 only_codec x f cs c one is =
     one_codec x c is ∙ sym (append-nil (codec_line c)) ∙ ap (flat_map codec_line) (sym one) ∙ flat_map-map codec_line f cs
 
-only_header : (y : Summary) (s : List ObuValue) → IsSummary y s → profile_text y.primary y.additional ≡ flat_map header_line (sequence_headers s)
+one_profile : (x : ProfileLine) (h : SequenceHeaderFields) → IsProfileLine x h → profile_text x ≡ header_line h
+one_profile x h is = cc
+
+only_header : (y : Summary) (s : List ObuValue) → IsSummary y s → profile_text y.profile ≡ flat_map header_line (sequence_headers s)
 only_header y s is =
     let h = is.header.0 in
-    let line : profile_text y.primary y.additional ≡ header_line h = ap (λ (n : ℕ). profile_text n y.additional) is.header.2 ∙ ap (profile_text h.primary_profile) is.header.3 in
-    line ∙ sym (append-nil (header_line h)) ∙ ap (flat_map header_line) (sym is.header.1)
+    one_profile y.profile h is.header.2 ∙ sym (append-nil (header_line h)) ∙ ap (flat_map header_line) (sym is.header.1)
 
 all_counts : (y : Summary) (s : List ObuValue) → IsSummary y s → count_text y.units y.kept ≡ counts (roles_of s)
 all_counts y s is = cc
@@ -58,5 +62,5 @@ pub prints : (y : Summary) (s : List ObuValue) → IsSummary y s → printed y �
 unfolding printed report
 prints y s is =
     five _ _ _ _ _ _ _ _ _ _ (only_header y s is)
-    (only_codec y.codec (λ f. codec_role f.codec_config_id f.num_samples_per_frame f.coding) (codec_configs s) is.codec.0 is.codec.1 is.codec.2)
+    (only_codec y.codec role_of_codec (codec_configs s) is.codec.0 is.codec.1 is.codec.2)
     (all_elements y.elements.items (audio_elements s) is.elements) (all_mixes (roles_of s) y.mixes.items (mix_presentations s) is.mixes) (all_counts y s is)

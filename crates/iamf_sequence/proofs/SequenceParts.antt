@@ -5,6 +5,7 @@ use Rattle.std.proofs.lemmas.List.{length-map}
 use Rattle.spec_sequence.specs.Units.{unit_count}
 use Rattle.spec_sequence.specs.Parts.{UnitValue, temporal_units}
 use Rattle.spec_sequence.specs.Reading.{Entry, values_of, roles}
+use Rattle.spec_sequence.proofs.Roles.{roles_of_values}
 use Rattle.obu_header.specs.declared.view.ObuView.{ObuView}
 use Rattle.iamf_sequence.specs.declared.unit.Unit as temporal
 use Rattle.iamf_sequence.specs.declared.parts.Placed.{Placed}
@@ -12,7 +13,6 @@ use Rattle.iamf_sequence.specs.declared.parts.Parts.{Parts}
 use Rattle.iamf_sequence.specs.UnitView.{IsUnit, AreUnits}
 use Rattle.iamf_sequence.specs.SequenceView.{AreViews, views_of, IsSequence}
 use Rattle.iamf_sequence.proofs.Parting.{length-temporal_units}
-use Rattle.iamf_sequence.proofs.RolesOfParts.{roles_are}
 
 -- ---- how many there are
 
@@ -22,17 +22,17 @@ views_length [] (e ∷ es) h = absurd h
 views_length (o ∷ os) [] h = absurd h
 views_length (o ∷ os) (e ∷ es) h = ap suc (views_length os es h.2)
 
-units_length : (us : List temporal.Unit) (vs : List UnitValue) → AreUnits us vs → length us ≡ length vs
-units_length [] [] h = refl
-units_length [] (v ∷ vs) h = absurd h
-units_length (u ∷ us) [] h = absurd h
-units_length (u ∷ us) (v ∷ vs) h = ap suc (units_length us vs h.1)
+pub same_length : (us : List temporal.Unit) (vs : List UnitValue) → AreUnits us vs → length us ≡ length vs
+same_length [] [] h = refl
+same_length [] (v ∷ vs) h = absurd h
+same_length (u ∷ us) [] h = absurd h
+same_length (u ∷ us) (v ∷ vs) h = ap suc (same_length us vs h.1)
 
 pub obus_counted : (p : Parts) (l : List Entry) → IsSequence p l → length p.obus.items ≡ length l
 obus_counted p l s = sym (length-map p.obus.items (λ (o : Placed). o.view)) ∙ views_length (views_of p.obus.items) l s.views
 
 pub units_counted : (p : Parts) (l : List Entry) → IsSequence p l → length p.units.items ≡ unit_count (roles l)
-units_counted p l s = units_length p.units.items (temporal_units (values_of l)) s.units ∙ length-temporal_units (values_of l) ∙ ap unit_count (roles_are l)
+units_counted p l s = same_length p.units.items (temporal_units (values_of l)) s.units ∙ length-temporal_units (values_of l) ∙ ap unit_count (roles_of_values l)
 
 -- ---- a unit by its number
 

@@ -20,7 +20,7 @@ use Rattle.iamf_sequence.specs.Summing.{IsElementLine, IsMixLine, AreElementLine
 use Rattle.iamf_sequence.specs.declared.lines.ElementLine.{ElementLine}
 use Rattle.iamf_sequence.specs.declared.lines.MixLine.{MixLine}
 
-element_last : (xs : List ElementLine) (es : List AudioElementFields) (x : ElementLine) (e : AudioElementFields) → AreElementLines xs es → IsElementLine x e → AreElementLines (xs ++ x ∷ []) (es ++ e ∷ [])
+pub element_last : (xs : List ElementLine) (es : List AudioElementFields) (x : ElementLine) (e : AudioElementFields) → AreElementLines xs es → IsElementLine x e → AreElementLines (xs ++ x ∷ []) (es ++ e ∷ [])
 element_last [] [] x e are is = (is, tt)
 element_last (y ∷ ys) (d ∷ ds) x e are is = (are.0, element_last ys ds x e are.1 is)
 element_last [] (d ∷ ds) x e are is = absurd are
@@ -34,7 +34,7 @@ more_elements elements i element xs new x lt at are is new_is =
     subst (λ (es : List AudioElementFields). AreElementLines new es) more
     (subst (λ (ys : List ElementLine). AreElementLines ys (map view_element (take i elements) ++ view_element element ∷ [])) (sym new_is) (element_last xs (map view_element (take i elements)) x (view_element element) are is))
 
-mix_last : (l : List Role) (xs : List MixLine) (ms : List MixPresentationFields) (x : MixLine) (m : MixPresentationFields) → AreMixLines l xs ms → IsMixLine l x m → AreMixLines l (xs ++ x ∷ []) (ms ++ m ∷ [])
+pub mix_last : (l : List Role) (xs : List MixLine) (ms : List MixPresentationFields) (x : MixLine) (m : MixPresentationFields) → AreMixLines l xs ms → IsMixLine l x m → AreMixLines l (xs ++ x ∷ []) (ms ++ m ∷ [])
 mix_last l [] [] x m are is = (is, tt)
 mix_last l (y ∷ ys) (d ∷ ds) x m are is = (are.0, mix_last l ys ds x m are.1 is)
 mix_last l [] (d ∷ ds) x m are is = absurd are

@@ -1,9 +1,6 @@
 -- The rules after one more OBU.
 use Rattle.std.proofs.Common.{◌≡◌, ◌<◌, ℕ, List, [], ◌∷◌, ◌++◌, refl, sym, ap, subst, ◌∙◌, fold}
 use Rattle.std.specs.Prelude.{Result, Ok, Err, None}
-use Rattle.std.specs.List.{flat_map}
-use Rattle.std.proofs.lemmas.List.{append-nil}
-use Rattle.std.proofs.lemmas.Grind.{flat_map-append, fold-append}
 use Rattle.spec_blocks.specs.Shape.{Definition, with_definition}
 use Rattle.spec_sequence.specs.Role.{CodecRole, Role, Ignored, SequenceHeader, codec_role}
 use Rattle.spec_sequence.specs.Rules.{fault_after}
@@ -12,6 +9,7 @@ use Rattle.spec_sequence.specs.Descriptors.{codecs, codec_of, definitions, defin
 use Rattle.spec_syntax.specs.Payload.{IsValid}
 use Rattle.spec_descriptors.specs.AudioElement.{audio_element}
 use Rattle.spec_descriptors.specs.ElementFields.{audio_element_fields}
+use Rattle.spec_sequence.proofs.DescriptorLists.{definitions_after, codecs-push}
 use Rattle.obu_descriptors.specs.declared.audio_element.AudioElement.{AudioElement}
 use Rattle.obu_descriptors.specs.ElementView.{view_element}
 use Rattle.iamf_sequence.specs.declared.content.Content.TheVariants as contents
@@ -22,7 +20,6 @@ use Rattle.iamf_admission.specs.declared.admission.AdmitError.TheVariants as err
 use Rattle.iamf_admission.specs.Standing.{Stands, Admits}
 use Rattle.iamf_sequence.specs.RulesView.{FramesLast, StandsFor, Tests}
 use Rattle.iamf_sequence.specs.declared.rules.Rules.{Rules}
-use Rattle.iamf_admission.proofs.Stepping.{flat_map-push}
 use Rattle.iamf_admission.proofs.Admitting.{stands-ignored}
 
 pub definitions_none : definitions [] ≡ []
@@ -33,22 +30,12 @@ pub no_codec : FramesLast (codecs [])
 unfolding codecs
 no_codec = tt
 
-pub definitions_after : (l : List Role) (o : Role) → definitions (l ++ o ∷ []) ≡ fold with_definition (definitions l) (definitions_of o)
-unfolding definitions
-definitions_after l o =
-    ap (fold with_definition []) (flat_map-append definitions_of l (o ∷ []) ∙ ap (λ (ds : List Definition). flat_map definitions_of l ++ ds) (append-nil (definitions_of o)))
-    ∙ fold-append with_definition [] (flat_map definitions_of l) (definitions_of o)
-
-codecs_after : (l : List Role) (o : Role) → codecs (l ++ o ∷ []) ≡ codecs l ++ codec_of o
-unfolding codecs
-codecs_after l o = flat_map-push codec_of l o
-
 last_more : (cs ds : List CodecRole) → FramesLast cs → FramesLast ds → FramesLast (cs ++ ds)
 last_more [] ds f g = g
 last_more (c ∷ cs) ds f g = f
 
 last_after : (l : List Role) (o : Role) → FramesLast (codecs l) → FramesLast (codec_of o) → FramesLast (codecs (l ++ o ∷ []))
-last_after l o f g = subst FramesLast (sym (codecs_after l o)) (last_more (codecs l) (codec_of o) f g)
+last_after l o f g = subst FramesLast (sym (codecs-push l o)) (last_more (codecs l) (codec_of o) f g)
 
 pub role_lasts : (id n : ℕ) (coding : CodingFields) → 0 < n → FramesLast (codec_role id n coding ∷ [])
 role_lasts id n (Lpcm is_little depth rate) some = some

@@ -7,7 +7,7 @@ use Rattle.spec_sequence.specs.Units.{unit_at, unit_of}
 use Rattle.spec_sequence.specs.Reading.{Entry, roles}
 use Rattle.iamf_sequence.specs.declared.parts.Placed.{Placed}
 use Rattle.iamf_sequence.specs.declared.parts.Parts.{Parts}
-use Rattle.iamf_sequence.specs.DraftView.{number_after}
+use Rattle.iamf_sequence.specs.ReaderView.{number_after}
 use Rattle.iamf_sequence.specs.SequenceView.{numbers_after, IsSequence}
 
 -- the number of an OBU comes of those before it

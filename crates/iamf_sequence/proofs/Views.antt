@@ -1,22 +1,20 @@
 -- The views of a sequence are of its OBUs, each read by the frame length and the definitions of all of them.
-use Rattle.std.proofs.Common.{◌≡◌, ℕ, Bool, true, false, List, [], ◌∷◌, ◌++◌, ◌<◌, ◌==◌, length, get_or, map, refl, sym, ap, subst, ◌∙◌, append_assoc}
-use Rattle.std.specs.Prelude.{if◌then◌else◌, Some, option_map, slice_get}
-use Rattle.std.specs.List.{flat_map}
-use Rattle.std.proofs.lemmas.List.{map-append}
+use Rattle.std.proofs.Common.{◌≡◌, ℕ, List, [], ◌∷◌, ◌++◌, ◌<◌, length, get_or, map, refl, sym, ap, subst, ◌∙◌, append_assoc}
+use Rattle.std.specs.Prelude.{Some, option_map, slice_get}
 use Rattle.spec_bits.specs.Bits.{Bits, AreBytes, all_bits}
-use Rattle.spec_obu.specs.Header.{Head}
 use Rattle.spec_blocks.specs.Shape.{Definition}
 use Rattle.spec_descriptors.specs.CodecConfig.{CodingFields, Lpcm, Flac, CodecConfigFields}
-use Rattle.spec_sequence.specs.Content.{Content, Header, Codec, Element, Mix, Block, Frame, Nothing, Context, PayloadOf}
+use Rattle.spec_sequence.specs.Content.{Context, PayloadOf}
 use Rattle.spec_sequence.specs.Value.{ObuValue, Spells}
 use Rattle.spec_sequence.specs.Canonical.{canonical_obu, encoded}
-use Rattle.spec_sequence.specs.Role.{CodecRole, codec_role, plain_role}
-use Rattle.spec_sequence.specs.Role as role
-use Rattle.spec_sequence.specs.Descriptors.{codec_of, codecs, first_length, frame_length, definitions, context_of}
-use Rattle.spec_sequence.specs.Parts.{codec_in, of_plain, codec_configs}
+use Rattle.spec_sequence.specs.Role.{codec_role, role_of_codec}
+use Rattle.spec_sequence.specs.Descriptors.{codecs, first_length, frame_length, definitions, context_of}
+use Rattle.spec_sequence.specs.Parts.{codec_configs}
 use Rattle.spec_sequence.specs.Reading.{Entry, values_of, roles, context_after, AdmittedAfter}
 use Rattle.spec_bits.proofs.ByteForms.{AreBytes-parts, same_bytes}
 use Rattle.spec_sequence.proofs.FixedContext.{Keeps, keeps-nil, keeps-push}
+use Rattle.spec_sequence.proofs.RolesOfParts.{codecs_are}
+use Rattle.spec_sequence.proofs.Roles.{roles_of_values}
 use Rattle.iamf_sequence.specs.declared.parts.Placed.{Placed}
 use Rattle.iamf_sequence.specs.declared.parts.Parts.{Parts}
 use Rattle.iamf_sequence.specs.SequenceView.{AreViews, views_of, IsSequence}
@@ -26,40 +24,13 @@ use Rattle.iamf_sequence.proofs.Joining.{view_at, canonical_bytes, encoded_bytes
 
 -- ---- the frame length
 
-abbrev role_of_codec : CodecConfigFields → CodecRole
-role_of_codec f = codec_role f.codec_config_id f.num_samples_per_frame f.coding
-
-plain_codec : (h : Head) (c : Content) (tail : List ℕ) → codec_of (plain_role h c tail) ≡ map role_of_codec (codec_in c)
-plain_codec h (Header x) tail = refl
-plain_codec h (Codec x) tail = refl
-plain_codec h (Element x) tail = refl
-plain_codec h (Mix x) tail = refl
-plain_codec h (Block x) tail = refl
-plain_codec h (Frame x) tail = refl
-plain_codec h Nothing tail = go (h.kind == 4)
-  where
-    go : (b : Bool) → codec_of (if b then role.Delimiter else role.Ignored) ≡ []
-    go true = refl
-    go false = refl
-
-one_codec : (b : Bool) (h : Head) (c : Content) (tail : List ℕ) → codec_of (if b then role.Ignored else plain_role h c tail) ≡ map role_of_codec (if b then [] else codec_in c)
-one_codec true h c tail = refl
-one_codec false h c tail = plain_codec h c tail
-
-codecs_are : (l : List Entry) → flat_map codec_of (roles l) ≡ map role_of_codec (flat_map (of_plain codec_in) (values_of l))
-codecs_are [] = refl
-codecs_are (e ∷ es) =
-    ap (λ (x : List CodecRole). x ++ flat_map codec_of (roles es)) (one_codec e.value.head.redundant e.value.head e.value.content e.value.tail)
-    ∙ ap (λ (x : List CodecRole). map role_of_codec (of_plain codec_in e.value) ++ x) (codecs_are es)
-    ∙ sym (map-append role_of_codec (of_plain codec_in e.value) (flat_map (of_plain codec_in) (values_of es)))
-
 length_is : (id n : ℕ) (c : CodingFields) → (codec_role id n c).frame_length ≡ n
 length_is id n (Lpcm is_little depth rate) = refl
 length_is id n (Flac info others) = refl
 
 length_of : (l : List Entry) (c : CodecConfigFields) → codec_configs (values_of l) ≡ c ∷ [] → frame_length (roles l) ≡ c.num_samples_per_frame
-unfolding frame_length codecs codec_configs
-length_of l c is = ap first_length (codecs_are l ∙ ap (map role_of_codec) is) ∙ length_is c.codec_config_id c.num_samples_per_frame c.coding
+unfolding frame_length
+length_of l c is = ap first_length (ap codecs (sym (roles_of_values l)) ∙ codecs_are (values_of l) ∙ ap (map role_of_codec) is) ∙ length_is c.codec_config_id c.num_samples_per_frame c.coding
 
 context_is : (p : Parts) (l : List Entry) → IsSequence p l → context_after l ≡ context p.codec.frame_length p.definitions
 unfolding context_of

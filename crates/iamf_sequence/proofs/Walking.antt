@@ -1,6 +1,6 @@
--- What a draft answers of the next OBU.
+-- What a reader answers of the next OBU.
 use Rattle.std.proofs.Common.{◌≡◌, ℕ, true, false, List, [], ◌∷◌, ◌++◌, refl, sym, ap, ap₂, subst, ◌∙◌}
-use Rattle.std.specs.Prelude.{Option, None, Err}
+use Rattle.std.specs.Prelude.{Some, None, Err}
 use Rattle.spec_sequence.specs.Content.{Kind, kind_of, Content, PayloadOf}
 use Rattle.spec_sequence.specs.Content as content
 use Rattle.spec_sequence.specs.Value.{ObuValue}
@@ -10,15 +10,17 @@ use Rattle.spec_sequence.specs.Descriptors.{context_of}
 use Rattle.spec_sequence.specs.Units.{is_data, open_unit}
 use Rattle.spec_sequence.specs.Rules.{fault_before, fault_after}
 use Rattle.spec_sequence.specs.Reading.{Entry, roles, values_of, context_after, is_copy, early_fault, OfPayload, Late}
+use Rattle.spec_sequence.proofs.Roles.{roles_of_values}
 use Rattle.iamf_admission.specs.declared.admission.AdmitError.{AdmitError}
 use Rattle.iamf_admission.specs.declared.admission.AdmitError.TheVariants as errors
 use Rattle.iamf_admission.specs.Admitted.{kind_of_role}
 use Rattle.obu_header.specs.declared.view.ObuView.{ObuView}
 use Rattle.obu_header.specs.View.{head_of}
 use Rattle.iamf_sequence.specs.declared.rules.Rules.{Rules}
-use Rattle.iamf_sequence.specs.ContentView.{ReadsKind}
+use Rattle.iamf_sequence.specs.ContentView.{ReadsKind, Holds, IsWhole, kind_in}
+use Rattle.iamf_sequence.specs.declared.content.Content as specs
 use Rattle.iamf_sequence.specs.RulesView.{StandsFor, Tests, number_of}
-use Rattle.iamf_sequence.specs.DraftView.{IsOfUnit, AddsTo, IsTaken, Fails}
+use Rattle.iamf_sequence.specs.ReaderView.{IsOfUnit, AddsTo, IsTaken, Fails}
 use Rattle.iamf_sequence.specs.Numbers.{unit_between, number_in}
 use Rattle.iamf_sequence.proofs.Counting.{of_unit}
 use Rattle.iamf_sequence.proofs.Taking.{kind_is, number_is, first_header, first_codec}
@@ -48,24 +50,7 @@ unit_is old new l o k before after unit is then late kinds first last between ha
     ap₂ (unit_between (kind_of_role o)) (sym (first ∙ is.stands.unit.number)) (sym (last ∙ then.stands.unit.number)) ∙ ap (λ (j : Kind). unit_between j before after) kinds ∙ sym between in
     subst (λ (n : ℕ). IsOfUnit n l o) numbers (of_unit l o is.stands.admitted late has)
 
-pub taken : (past : List Entry) (view : ObuView) (c : Content) (tail : List ℕ) (number : Option ℕ) (unit : ℕ) → is_copy (head_of view.head) ≡ false
-    → PayloadOf (context_after past) view.head.kind c tail view.payload.now → early_fault past (head_of view.head) view.payload.now ≡ None → fault_after (roles past) (role_in (head_of view.head) c tail) ≡ None
-    → (is_data (role_in (head_of view.head) c tail) ≡ true → IsOfUnit unit (roles past) (role_in (head_of view.head) c tail)) → number ≡ number_in (kind_of view.head.kind) unit → IsTaken past view number (entry view c tail)
-taken past view c tail number unit copy payload early late of_unit is =
-    let kinds = kind_is (context_of (roles past)) (head_of view.head) c tail view.payload.now copy payload.says in
-    record {
-      head = refl;
-      payload = refl;
-      payload_is = payload;
-      admissible = record { early = early; late = late };
-      unit = is ∙ ap (λ (k : Kind). number_in k unit) (sym kinds) ∙ number_is (roles past) (role_in (head_of view.head) c tail) unit (λ has. (of_unit has).number);
-    }
-
 -- ---- what is kept of a list looks at its values alone
-
-pub roles_of_values : (past : List Entry) → roles_of (values_of past) ≡ roles past
-roles_of_values [] = refl
-roles_of_values (e ∷ es) = ap (λ (l : List Role). role e.value ∷ l) (roles_of_values es)
 
 pub adds_to : (past : List Entry) (o : ObuValue) (unit : ℕ) → (is_data (role o) ≡ true → IsOfUnit unit (roles past) (role o)) → AddsTo unit (values_of past) o
 adds_to past o unit h = λ has. subst (λ (l : List Role). IsOfUnit unit l (role o)) (sym (roles_of_values past)) (h has)
@@ -75,3 +60,34 @@ one_header past k early is = first_header (values_of past) k (ap (λ (l : List R
 
 pub one_codec : (past : List Entry) (o : Role) → fault_after (roles past) o ≡ None → kind_of_role o ≡ content.CodecConfig → codec_configs (values_of past) ≡ []
 one_codec past o late is = first_codec (values_of past) o (ap (λ (l : List Role). fault_after l o) (roles_of_values past) ∙ late) is
+
+-- ---- it is taken in
+
+pub taken : (past : List Entry) (view : ObuView) (said : specs.Content) (c : Content) (tail : List ℕ) (unit : ℕ) {r : Rules} → StandsFor r (roles past) → is_copy (head_of view.head) ≡ false
+    → PayloadOf (context_after past) view.head.kind c tail view.payload.now → early_fault past (head_of view.head) view.payload.now ≡ None → fault_before (roles past) (kind_of view.head.kind) ≡ None
+    → fault_after (roles past) (role_in (head_of view.head) c tail) ≡ None → (is_data (role_in (head_of view.head) c tail) ≡ true → IsOfUnit unit (roles past) (role_in (head_of view.head) c tail))
+    → kind_in said ≡ kind_of view.head.kind → Holds said view.head.trim view.payload.now c tail → IsWhole (context_of (roles past)) said
+    → IsTaken past view (Some (record { content = said; unit = unit })) (entry view c tail)
+taken past view said c tail unit is copy payload early before late of_unit kind holds whole =
+    let o : ObuValue = (entry view c tail).value in
+    let kinds = kind_is (context_of (roles past)) (head_of view.head) c tail view.payload.now copy payload.says in
+    let values : roles_of (values_of past) ≡ roles past = roles_of_values past in
+    record {
+      head = refl;
+      payload = refl;
+      payload_is = payload;
+      admissible = record { early = early; late = late };
+      unit = ap (λ (k : Kind). number_in k unit) (kind ∙ sym kinds) ∙ number_is (roles past) (role o) unit (λ has. (of_unit has).number);
+      says = record {
+        head = refl;
+        plain = copy;
+        holds = holds;
+        whole = (context_of (roles past), whole);
+        kind = kind;
+        adds = adds_to past o unit of_unit;
+        admitted = rw values is.stands.admitted;
+        faultless = rw values (record { early = ap (fault_before (roles past)) kinds ∙ before; late = late });
+        first_header = λ k. one_header past (kind_of view.head.kind) before (sym kind ∙ k);
+        first_codec = λ k. one_codec past (role o) late (kinds ∙ (sym kind ∙ k));
+      };
+    }

@@ -2,14 +2,15 @@
 use Rattle.std.proofs.Common.{◌≡◌, ℕ, zero, suc, ◌≤◌, ◌<◌, Bool, true, false, eqb, List, [], ◌∷◌, ◌++◌, length, map, refl, sym, ap, ◌∙◌, inl, inr, arith}
 use Rattle.std.specs.Prelude.{Some, slice_get, if◌then◌else◌, ◌==◌}
 use Rattle.std.specs.List.{flat_map}
-use Rattle.std.proofs.lemmas.Bool.{cases_Bool, cases_lt}
+use Rattle.std.proofs.lemmas.Bool.{cases_Bool, cases_lt, false≢true}
 use Rattle.std.proofs.lemmas.List.{map-append}
 use Rattle.spec_sequence.specs.Content.{Content, Header, Codec, Element, Mix, Block, Frame, Nothing}
 use Rattle.spec_obu.specs.Header.{Head}
 use Rattle.spec_sequence.specs.Value.{ObuValue}
-use Rattle.spec_sequence.specs.Role.{Role, Ignored, Delimiter, role, role_of_nothing, role_in}
+use Rattle.spec_sequence.specs.Role.{Role, role, role_in}
 use Rattle.spec_sequence.specs.Units.{is_data, stream_of, trim_of, unit_after, placed_after, placed, if_unit, in_units, in_unit, streams_in, trims_in, unit_count}
 use Rattle.spec_sequence.specs.Parts.{roles_of, FrameValue, frame_in, frame_of, numbered_after, if_of_unit, obus_of, UnitValue, unit_value, units_up_to, temporal_units}
+use Rattle.spec_sequence.proofs.Roles.{nothing_of}
 use Rattle.iamf_sequence.proofs.Parting.{length-units_up_to}
 
 -- ---- the OBUs of a unit, as roles and as values
@@ -39,12 +40,6 @@ map-flat_map {X} f (o ∷ os) = ap (λ (xs : List X). map f (frame_of o) ++ xs) 
 
 -- ---- frames
 
-nothing_of : {X : Type 0} (part : Role → List X) → part Ignored ≡ [] → part Delimiter ≡ [] → (kind : ℕ) → part (role_of_nothing kind) ≡ []
-nothing_of part ignored delimiter kind = one (eqb kind 4) where
-  one : (b : Bool) → part (if b then Delimiter else Ignored) ≡ []
-  one true = delimiter
-  one false = ignored
-
 trims_of : (h : Head) (c : Content) (tail : List ℕ) → h.redundant ≡ false → trim_of (role_in h c tail) ≡ map (λ f. f.trim) (frame_in h c tail)
 trims_of h (Header x) tail plain = rw plain refl
 trims_of h (Codec x) tail plain = rw plain refl
@@ -65,9 +60,7 @@ streams_of h Nothing tail plain = rw plain (nothing_of stream_of refl refl h.kin
 
 -- a data OBU is no redundant copy
 data_is_plain : (o : ObuValue) → is_data (role o) ≡ true → o.head.redundant ≡ false
-data_is_plain o e = elim (cases_Bool o.head.redundant) [ inl copy ↦ absurd (clash (rw copy at e)) | inr plain ↦ plain ] where
-  clash : false ≡ true → ⊥
-  clash x = cc
+data_is_plain o e = elim (cases_Bool o.head.redundant) [ inl copy ↦ absurd (false≢true (rw copy at e)) | inr plain ↦ plain ]
 
 pub trims_are : (u : ℕ) (s : List ObuValue) → trims_in u (roles_of s) ≡ map (λ f. f.trim) (unit_value u s).frames
 unfolding trims_in in_unit in_units placed obus_of

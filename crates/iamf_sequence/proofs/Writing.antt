@@ -1,7 +1,6 @@
 -- Payloads and OBUs that are written in their canonical spelling.
-use Rattle.std.proofs.Common.{◌≡◌, ℕ, ◌^◌, ◌≤◌, List, [], ◌++◌, length, append_assoc, sym, ap, subst, ◌∙◌, arith}
+use Rattle.std.proofs.Common.{◌≡◌, ℕ, ◌^◌, ◌≤◌, List, [], ◌++◌, length, sym, ap, subst, ◌∙◌, arith}
 use Rattle.std.specs.Prelude.{Result, Ok, Err, OnOk}
-use Rattle.std.proofs.lemmas.List.{append-nil}
 use Rattle.spec_bits.specs.Bits.{Bits, AreBytes, all_bits}
 use Rattle.spec_bits.proofs.BitsLaws.{all_bits-append}
 use Rattle.spec_syntax.specs.Payload.{FieldValue, canon}
@@ -24,12 +23,6 @@ use Rattle.iamf_admission.specs.declared.admission.AdmitError.TheVariants as err
 use Rattle.iamf_sequence.specs.declared.content.Content as read
 use Rattle.iamf_sequence.specs.ContentView.{ReadsKind}
 use Rattle.iamf_sequence.specs.Encoding.{context, IsViewOf, IsWritten, IsMemory}
-
-pub append_law : (a b c : Bits) → (a ++ b) ++ c ≡ a ++ (b ++ c)
-append_law a b c = append_assoc a b c
-
-pub nothing_more : (a : Bits) → a ++ [] ≡ a
-nothing_more a = append-nil a
 
 -- ---- payloads
 

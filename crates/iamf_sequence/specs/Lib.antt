@@ -6,9 +6,13 @@ pub mod Originals
 pub mod KeptView
 pub mod SortedUnits
 pub mod Numbers
-pub mod DraftView
 pub mod Places
+pub mod ReaderView
 pub mod SequenceView
+pub mod DraftView
 pub mod Encoding
 pub mod Lines
 pub mod Summing
+pub mod CountView
+pub mod TallyView
+pub mod Respelled

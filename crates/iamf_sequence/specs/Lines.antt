@@ -2,6 +2,7 @@
 use Rattle.std.specs.Prelude.{ℕ, List, ◌∷◌, ◌++◌, codes}
 use Rattle.std.specs.List.{flat_map}
 use Rattle.spec_sequence.specs.Report.{ended, and_number, codec_name, fits_mark}
+use Rattle.iamf_sequence.specs.declared.lines.ProfileLine.{ProfileLine}
 use Rattle.iamf_sequence.specs.declared.lines.CodecLine.{CodecLine}
 use Rattle.iamf_sequence.specs.declared.lines.ElementKind.{ElementKind}
 use Rattle.iamf_sequence.specs.declared.lines.ElementKind.TheVariants as kinds
@@ -14,8 +15,8 @@ kind_name kinds.Scalable = codes "scalable"
 kind_name kinds.Scene = codes "scene"
 kind_name kinds.Other = codes "other"
 
-abbrev pub profile_text : ℕ → ℕ → List ℕ
-profile_text primary additional = ended (and_number (and_number (codes "profile") primary) additional)
+abbrev pub profile_text : ProfileLine → List ℕ
+profile_text p = ended (and_number (and_number (codes "profile") p.primary) p.additional)
 
 abbrev pub codec_text : CodecLine → List ℕ
 codec_text c = ended (and_number (and_number (and_number (and_number (codes "codec") c.id ++ 32 ∷ codec_name c.is_flac) c.frame_length) c.rate) c.depth)
@@ -32,6 +33,6 @@ count_text units kept = ended (and_number (codes "units") units) ++ ended (and_n
 -- one after the other
 unfoldable pub printed : Summary → List ℕ
 printed s =
-    profile_text s.primary s.additional
+    profile_text s.profile
     ++ (codec_text s.codec
     ++ (flat_map element_text s.elements.items ++ (flat_map mix_text s.mixes.items ++ count_text s.units s.kept)))

@@ -5,9 +5,8 @@ use Rattle.std.specs.Ordering.{nat_cmp, ordering_then}
 use Rattle.std.specs.Cmp.Lexicographic.{slice_cmp}
 use Rattle.std.specs.BTreeSet.{BTreeSet, contains_by}
 use Rattle.spec_obu.specs.Header.{Head}
-use Rattle.spec_sequence.specs.Content.{kind_of}
+use Rattle.spec_sequence.specs.Content.{kind_of, is_descriptor}
 use Rattle.spec_sequence.specs.Reading.{Entry, is_repeated}
-use Rattle.spec_sequence.proofs.FixedContext.{is_descriptor}
 use Rattle.iamf_sequence.specs.declared.originals.Originals.{Originals}
 
 -- whether the type and the payload are in the set, in whose order they are looked up

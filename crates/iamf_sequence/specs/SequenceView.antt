@@ -1,5 +1,5 @@
 -- What a sequence holds of its OBUs.
-use Rattle.std.specs.Prelude.{◌≡◌, ℕ, List, [], ◌∷◌, ◌++◌, map, length, take, Option, Some, None, Result, Ok, Err}
+use Rattle.std.specs.Prelude.{◌≡◌, ℕ, List, [], ◌∷◌, ◌++◌, map, length, Option, None}
 use Rattle.std.specs.List.{All}
 use Rattle.spec_descriptors.specs.CodecConfig.{CodecConfigFields}
 use Rattle.spec_sequence.specs.Role.{Role}
@@ -18,11 +18,8 @@ use Rattle.iamf_sequence.specs.declared.parts.Placed.{Placed}
 use Rattle.iamf_sequence.specs.declared.parts.Parts.{Parts}
 use Rattle.iamf_sequence.specs.ContentView.{IsElement}
 use Rattle.iamf_sequence.specs.UnitView.{AreUnits}
-use Rattle.iamf_sequence.specs.Places.{Tiles, IsRefused}
-use Rattle.iamf_sequence.specs.declared.draft.Draft.{Draft}
-use Rattle.iamf_sequence.specs.declared.refusal.DecodeError.{DecodeError}
-use Rattle.iamf_sequence.specs.declared.refusal.DecodeError.TheVariants as errors
-use Rattle.iamf_sequence.specs.DraftView.{IsDraft, number_after}
+use Rattle.iamf_sequence.specs.Places.{Tiles}
+use Rattle.iamf_sequence.specs.ReaderView.{number_after}
 
 -- each view is of its OBU
 abbrev pub AreViews : List ObuView → List Entry → Type 0
@@ -54,24 +51,3 @@ pub record IsSequence (p : Parts) (l : List Entry) : Type 0 where
   pub units : AreUnits p.units.items (temporal_units (values_of l))
   pub definitions_are : p.definitions ≡ definitions (roles l)
   pub kept_is : p.kept ≡ kept (roles l)
-
--- ---- while it is read
-
--- Up to a place the bytes are spellings of these OBUs, for which the draft stands.
-pub record IsWalked (bytes : List ℕ) (at : ℕ) (d : Draft) (obus : List Placed) (l : List Entry) : Type 0 where
-  pub admitted : Admitted (take at bytes) l
-  pub draft : IsDraft d l
-  pub views : AreViews (views_of obus) l
-  pub tiles : Tiles bytes 0 (views_of obus) at
-  pub numbers : map (λ o. o.unit) obus ≡ numbers_after [] (roles l)
-
--- What one more OBU of the bytes gives: it is taken in up to its end, or the bytes are refused.
-abbrev pub TakesNext : List ℕ → Draft → List Placed → Result ℕ DecodeError → Type 0
-TakesNext bytes d obus (Ok end) = (l : List Entry) × IsWalked bytes end d obus l
-TakesNext bytes d obus (Err e) = IsRefused bytes e
-
--- what is made of all OBUs of the bytes
-abbrev pub Finishes : List ℕ → List Entry → Result Parts DecodeError → Type 0
-Finishes bytes l (Ok p) = IsSequence p l × (p.buffer.now ≡ bytes)
-Finishes bytes l (Err (errors.Refused r)) = (r.at ≡ length bytes) × (end_fault (roles l) ≡ Some r.fault)
-Finishes bytes l (Err (errors.Memory e)) = Unit {0}

@@ -6,7 +6,7 @@ use Rattle.spec_descriptors.specs.SequenceHeader.{SequenceHeaderFields}
 use Rattle.spec_descriptors.specs.AudioElement.{AudioElementFields, coded_channels_of}
 use Rattle.spec_descriptors.specs.MixPresentation.{MixPresentationFields}
 use Rattle.spec_sequence.specs.Value.{ObuValue}
-use Rattle.spec_sequence.specs.Role.{Role, CodecRole, ElementRole, codec_role, mix_role}
+use Rattle.spec_sequence.specs.Role.{Role, CodecRole, ElementRole, role_of_codec, mix_role}
 use Rattle.spec_sequence.specs.Descriptors.{profiles, elements}
 use Rattle.spec_sequence.specs.Profile.{first_profile, fits}
 use Rattle.spec_sequence.specs.Units.{unit_count}
@@ -16,10 +16,15 @@ use Rattle.obu_mix.specs.declared.mix_element.MixElement.{MixElement}
 use Rattle.obu_mix.specs.declared.sub_mix.SubMix.{SubMix}
 use Rattle.obu_mix.specs.SubMixView.{view_sub_mix}
 use Rattle.iamf_sequence.specs.Lines.{kind_name}
+use Rattle.iamf_sequence.specs.declared.lines.ProfileLine.{ProfileLine}
 use Rattle.iamf_sequence.specs.declared.lines.CodecLine.{CodecLine}
 use Rattle.iamf_sequence.specs.declared.lines.ElementLine.{ElementLine}
 use Rattle.iamf_sequence.specs.declared.lines.MixLine.{MixLine}
 use Rattle.iamf_sequence.specs.declared.lines.Summary.{Summary}
+
+pub record IsProfileLine (line : ProfileLine) (h : SequenceHeaderFields) : Type 0 where
+  pub primary : line.primary ≡ h.primary_profile
+  pub additional : line.additional ≡ h.additional_profile
 
 pub record IsCodecLine (line : CodecLine) (c : CodecRole) : Type 0 where
   pub id : line.id ≡ c.id
@@ -52,8 +57,8 @@ AreMixLines l _ _ = ⊥
 
 -- the numbers, names and marks of the report on the sequence
 pub record IsSummary (y : Summary) (s : List ObuValue) : Type 0 where
-  pub header : (h : SequenceHeaderFields) × (sequence_headers s ≡ h ∷ []) × (y.primary ≡ h.primary_profile) × (y.additional ≡ h.additional_profile)
-  pub codec : (c : CodecRole) × (map (λ f. codec_role f.codec_config_id f.num_samples_per_frame f.coding) (codec_configs s) ≡ c ∷ []) × IsCodecLine y.codec c
+  pub header : (h : SequenceHeaderFields) × (sequence_headers s ≡ h ∷ []) × IsProfileLine y.profile h
+  pub codec : (c : CodecRole) × (map role_of_codec (codec_configs s) ≡ c ∷ []) × IsCodecLine y.codec c
   pub elements : AreElementLines y.elements.items (audio_elements s)
   pub mixes : AreMixLines (roles_of s) y.mixes.items (mix_presentations s)
   pub units : y.units ≡ unit_count (roles_of s)

@@ -1,73 +1,24 @@
 //! Reading a sequence.
-ghost use Rattle.std.specs.Prelude.{◌≡◌, ◌<◌, ◌≤◌, ◌^◌, ◌+◌, ℕ, List, length, map, sum, slice_index_or, IfOk, IfErr, OnOk};
+ghost use Rattle.std.specs.Prelude.{◌≡◌, ◌<◌, ◌≤◌, ◌^◌, ℕ, List, length, map, sum, slice_index_or, IfOk, IfErr, OnOk};
 ghost use Rattle.spec_sequence.specs.Parts.{UnitValue};
 ghost use Rattle.spec_sequence.specs.Reading.{Entry};
 ghost use Rattle.iamf_sequence.specs.declared.unit.Unit as temporal;
 ghost use Rattle.iamf_sequence.specs.UnitView.{IsUnit, AreUnits};
 ghost use Rattle.iamf_sequence.specs.SortedUnits.{SortsTo, kept_of};
 ghost use Rattle.iamf_sequence.specs.RulesView.{number_of};
-ghost use Rattle.iamf_sequence.specs.Places.{refused_at, not_taken_at, IsRefused};
-ghost use Rattle.iamf_sequence.specs.SequenceView.{IsSequence, IsWalked, TakesNext, Finishes};
+ghost use Rattle.iamf_sequence.specs.Places.{IsRefused};
+ghost use Rattle.iamf_sequence.specs.SequenceView.{IsSequence};
+ghost use Rattle.iamf_sequence.specs.DraftView.{IsDraft};
+ghost use Rattle.iamf_sequence.specs.ReaderView.{Finishes};
 
 use crate::draft::Draft;
-use crate::parts::{Parts, Placed};
-use crate::refusal::{DecodeError, Refusal};
+use crate::parts::Parts;
+use crate::refusal::{DecodeError, refused};
 use crate::sequence::Sequence;
 use crate::unit::Unit;
-use iamf_admission::AdmitError;
-use obu_header::{ObuView, read_obu};
+use crate::unit_count::kept_samples;
 use spec_sequence::Fault;
 use std::alloc::{AllocError, Global};
-
-fn refused(at: usize, fault: Fault) -> DecodeError
-    ensures { result ≡ refused_at at fault }
-{
-    DecodeError::Refused(Refusal {
-        at: at as u64,
-        fault,
-    })
-}
-
-/// Why the OBU at the place is not taken in.
-fn not_taken(at: usize, error: AdmitError) -> DecodeError
-    ensures { result ≡ not_taken_at at error }
-{
-    match error {
-        AdmitError::Fault(fault) => refused(at, fault),
-        AdmitError::Memory(error) => DecodeError::Memory(error),
-    }
-}
-
-/// Takes in the OBU at the place, and answers the place after it.
-fn take_next<'a>(
-    alloc: Global,
-    buffer: &'a [u8],
-    at: usize,
-    draft: &mut Draft<'a>,
-    obus: &mut Vec<Placed<'a>>,
-) -> Result<usize, DecodeError>
-    requires more { at < length buffer.now }
-    requires number { number_of draft.old.rules < 2 ^ 40 }
-    requires walked { (l : List Entry) × IsWalked buffer.now at draft.old obus.old.items l }
-    ensures onward { IfOk result (λ end. at < end) }
-    ensures within { IfOk result (λ end. end ≤ length buffer.now) }
-    ensures number { OnOk result (number_of draft.new.rules ≤ number_of draft.old.rules + 1) }
-    ensures takes { (l : List Entry) → IsWalked buffer.now at draft.old obus.old.items l → TakesNext buffer.now draft.new obus.new.items result }
-{
-    let view = match read_obu(buffer, at) {
-        Ok(view) => view,
-        Err(fault) => return Err(refused(at, Fault::Header(fault))),
-    };
-    let unit = match draft.step(alloc, &view) {
-        Ok(unit) => unit,
-        Err(error) => return Err(not_taken(at, error)),
-    };
-    match obus.push(Placed { view, unit }) {
-        Ok(()) => {}
-        Err(_) => return Err(DecodeError::Memory(AllocError)),
-    }
-    Ok(view.end)
-}
 
 /// Reads the bytes, of which there are at most 2^40, as a sequence. Its views lie in the bytes.
 ///
@@ -80,31 +31,27 @@ pub fn decode<'a>(alloc: Global, buffer: &'a [u8]) -> Result<Sequence<'a>, Decod
     ensures reads { IfOk result (λ s. (l : List Entry) × IsSequence s l) }
     ensures refused { IfErr result (λ e. IsRefused buffer.now e) }
 {
-    let mut obus = Vec::new(alloc);
     let mut draft = Draft::new(alloc);
     let mut at = 0;
     while at < buffer.len() {
-        match take_next(alloc, buffer, at, &mut draft, &mut obus) {
+        match draft.take_next(alloc, buffer, at) {
             Ok(end) => at = end,
             Err(error) => return Err(error),
         }
     }
-    match finish(draft, obus, buffer) {
+    match finish(draft, buffer) {
         Ok(parts) => Ok(Sequence { parts }),
         Err(error) => Err(error),
     }
 }
 
 /// The parts of the sequence of all OBUs of a buffer, or the fault of its end.
-fn finish<'a>(
-    draft: Draft<'a>,
-    obus: Vec<Placed<'a>>,
-    buffer: &'a [u8],
-) -> Result<Parts<'a>, DecodeError>
-    requires { number_of draft.rules ≤ 2 ^ 40 }
-    ensures { (l : List Entry) → IsWalked buffer.now (length buffer.now) draft.entry obus.entry.items l → Finishes buffer.now l result }
+fn finish<'a>(draft: Draft<'a>, buffer: &'a [u8]) -> Result<Parts<'a>, DecodeError>
+    requires { number_of draft.reader.rules ≤ 2 ^ 40 }
+    ensures { (l : List Entry) → IsDraft buffer.now (length buffer.now) draft.entry l → Finishes buffer.now l (λ p. IsSequence p l × (p.buffer.now ≡ buffer.now)) result }
 {
-    let Draft { rules, kept, .. } = draft;
+    let Draft { reader, kept, obus } = draft;
+    let rules = reader.rules;
     if let Some(fault) = rules.end_fault() {
         return Err(refused(buffer.len(), fault));
     }
@@ -142,9 +89,7 @@ fn kept_in(unit: &Unit<'_>, frame_length: u16) -> u64
     if unit.frames.is_empty() {
         return 0;
     }
-    let trim = unit.trim();
-    let left_out = u64::from(trim.start) + u64::from(trim.end);
-    u64::from(frame_length).saturating_sub(left_out)
+    kept_samples(unit.trim(), frame_length)
 }
 
 /// The samples of a channel that all units keep. The sum of so many units is exact.

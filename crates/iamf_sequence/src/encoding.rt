@@ -21,7 +21,7 @@ use obu_header::{ObuView, write_obu};
 use std::alloc::{AllocError, Global};
 
 /// Puts the id of a frame's substream, where the type of the OBU does not give it.
-#[tactic(auto, using(crate::proofs::Writing::append_law, crate::proofs::Writing::nothing_more))]
+#[tactic(auto, using(spec_bits::proofs::JoinLaws::joins))]
 fn put_substream(out: &mut Out, obu_type: u8, substream: u32) -> Result<(), AllocError>
     requires { out.old.used ≡ 0 }
     ensures bits { OnOk result (out.new.bits ≡ out.old.bits ++ canon (frame_fields obu_type substream)) }
@@ -77,7 +77,7 @@ fn give_up(error: AdmitError) -> Result<(), AllocError>
 }
 
 /// Puts the canonical spelling of an OBU of a sequence with this frame length and these definitions.
-fn put_obu(
+pub(crate) fn put_obu(
     alloc: Global,
     out: &mut Out,
     view: &ObuView<'_>,

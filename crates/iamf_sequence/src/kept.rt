@@ -1,18 +1,13 @@
 //! What is kept of what OBUs say.
 
-ghost use Rattle.std.specs.Prelude.{◌≡◌, ◌<◌, false, ℕ, List, [], ◌∷◌, ◌++◌, length, map, OnOk};
+ghost use Rattle.std.specs.Prelude.{◌≡◌, ◌<◌, List, [], ◌∷◌, ◌++◌, length, map, OnOk};
 ghost use Rattle.std.specs.List.{All};
-ghost use Rattle.spec_sequence.specs.Content.{Context};
 ghost use Rattle.spec_sequence.specs.Value.{ObuValue};
-ghost use Rattle.spec_sequence.specs.Reading.{is_copy};
-ghost use Rattle.spec_sequence.specs.Parts.{sequence_headers, codec_configs};
-ghost use Rattle.obu_header.specs.View.{head_of};
-ghost use Rattle.obu_header.specs.declared.view.ObuHead.{ObuHead};
-ghost use Rattle.iamf_sequence.specs.ContentView.{IsWhole, Holds, kind_in};
+ghost use Rattle.obu_header.specs.declared.view.ObuView.{ObuView};
 ghost use Rattle.iamf_sequence.specs.UnitView.{view_unit, HasTrim, opened, change_last, with_frame, with_block};
-ghost use Rattle.spec_sequence.specs.Content as contents;
 
 use crate::content::Content;
+use crate::reader::Said;
 use crate::unit::Unit;
 use obu_data::{FrameView, ParameterBlock};
 use obu_descriptors::{AudioElement, CodecConfig, SequenceHeader};
@@ -31,7 +26,7 @@ pub(crate) struct Kept<'a> {
 
 impl<'a> Kept<'a> {
     ghost use Rattle.iamf_sequence.specs.KeptView.{Keeps};
-    ghost use Rattle.iamf_sequence.specs.DraftView.{AddsTo};
+    ghost use Rattle.iamf_sequence.specs.ReaderView.{IsSaid, Says};
 
     /// Of no OBU.
     pub(crate) fn new(alloc: Global) -> Kept<'a>
@@ -46,19 +41,25 @@ impl<'a> Kept<'a> {
         }
     }
 
-    /// Keeps what a plain OBU says; `unit` is the number of the temporal unit of a data OBU. An `Err` comes only where
-    /// memory runs out, and then nothing is known. One header and one codec config are kept.
-    pub(crate) fn keep(
+    /// Keeps what an OBU says: nothing, where it is a redundant copy. An `Err` comes only where memory runs out, and then
+    /// nothing is known.
+    pub(crate) fn keep_said(
         &mut self,
         alloc: Global,
-        content: Content<'a>,
-        unit: usize,
+        said: Option<Said<'a>>,
     ) -> Result<(), AllocError>
-        ensures { OnOk result ((context : Context) (s : List ObuValue) (o : ObuValue) (head : ObuHead) (payload : List ℕ) → Keeps self.old s
-            → o.head ≡ head_of head → is_copy o.head ≡ false → Holds content.entry head.trim payload o.content o.tail → IsWhole context content.entry
-            → kind_in content.entry ≡ contents.kind_of o.head.kind → AddsTo unit s o
-            → (kind_in content.entry ≡ contents.SequenceHeader → sequence_headers s ≡ [])
-            → (kind_in content.entry ≡ contents.CodecConfig → codec_configs s ≡ []) → Keeps self.new (s ++ o ∷ [])) }
+        ensures { OnOk result ((s : List ObuValue) (o : ObuValue) (view : ObuView) → Keeps self.old s → Says said.entry view s o → Keeps self.new (s ++ o ∷ [])) }
+    {
+        match said {
+            Some(said) => self.keep(alloc, said.content, said.unit),
+            None => Ok(()),
+        }
+    }
+
+    /// Keeps what a plain OBU says; `unit` is the number of the temporal unit of a data OBU. An `Err` comes only where
+    /// memory runs out, and then nothing is known. One header and one codec config are kept.
+    fn keep(&mut self, alloc: Global, content: Content<'a>, unit: usize) -> Result<(), AllocError>
+        ensures { OnOk result ((s : List ObuValue) (o : ObuValue) (view : ObuView) → Keeps self.old s → IsSaid content.entry unit view s o → Keeps self.new (s ++ o ∷ [])) }
     {
         match content {
             Content::Header(header) => {

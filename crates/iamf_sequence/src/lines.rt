@@ -1,5 +1,12 @@
 //! What the report on a sequence prints.
 
+/// What the line of the sequence header prints.
+#[derive(Clone, Copy, Debug, PartialEq, Eq)]
+pub(crate) struct ProfileLine {
+    pub(crate) primary: u8,
+    pub(crate) additional: u8,
+}
+
 /// What the line of a codec config prints.
 #[derive(Clone, Copy, Debug, PartialEq, Eq)]
 pub(crate) struct CodecLine {
@@ -39,8 +46,7 @@ pub(crate) struct MixLine {
 /// The numbers, names and marks of the report on a sequence.
 #[derive(Debug, Drop)]
 pub struct Summary {
-    pub(crate) primary: u8,
-    pub(crate) additional: u8,
+    pub(crate) profile: ProfileLine,
     pub(crate) codec: CodecLine,
     pub(crate) elements: Vec<ElementLine>,
     pub(crate) mixes: Vec<MixLine>,

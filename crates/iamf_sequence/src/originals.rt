@@ -1,9 +1,8 @@
 //! The payloads that redundant copies may repeat (IAMF 1.0.0, "obu_redundant_copy").
 
 ghost use Rattle.std.specs.Prelude.{◌≡◌, true, false, List, [], ◌∷◌, ◌++◌, OnOk};
-ghost use Rattle.spec_sequence.specs.Content.{kind_of};
+ghost use Rattle.spec_sequence.specs.Content.{kind_of, is_descriptor};
 ghost use Rattle.spec_sequence.specs.Reading.{Entry, is_repeated};
-ghost use Rattle.spec_sequence.proofs.FixedContext.{is_descriptor};
 ghost use Rattle.obu_header.specs.View.{head_of};
 
 use obu_header::ObuView;

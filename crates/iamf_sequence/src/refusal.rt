@@ -2,7 +2,9 @@
 
 ghost use Rattle.std.specs.Prelude.{◌≡◌};
 ghost use Rattle.spec_sequence.specs.Code.{code_of};
+ghost use Rattle.iamf_sequence.specs.Places.{refused_at, not_taken_at};
 
+use iamf_admission::AdmitError;
 use spec_sequence::Fault;
 use std::alloc::AllocError;
 use thiserror::Error;
@@ -34,4 +36,24 @@ pub enum DecodeError {
     /// Memory ran out.
     #[error("out of memory")]
     Memory(AllocError),
+}
+
+/// The answer to bytes whose first fault stands at the place.
+pub(crate) fn refused(at: usize, fault: Fault) -> DecodeError
+    ensures { result ≡ refused_at at fault }
+{
+    DecodeError::Refused(Refusal {
+        at: at as u64,
+        fault,
+    })
+}
+
+/// Why the OBU at the place is not taken in.
+pub(crate) fn not_taken(at: usize, error: AdmitError) -> DecodeError
+    ensures { result ≡ not_taken_at at error }
+{
+    match error {
+        AdmitError::Fault(fault) => refused(at, fault),
+        AdmitError::Memory(error) => DecodeError::Memory(error),
+    }
 }

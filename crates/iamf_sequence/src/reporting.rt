@@ -6,7 +6,7 @@ ghost use Rattle.spec_sequence.specs.Report.{and_number, codec_name, fits_mark, 
 ghost use Rattle.iamf_sequence.specs.Summing.{IsSummary};
 ghost use Rattle.iamf_sequence.specs.Lines.{kind_name, profile_text, codec_text, element_text, mix_text, count_text, printed};
 
-use crate::lines::{CodecLine, ElementKind, ElementLine, MixLine, Summary};
+use crate::lines::{CodecLine, ElementKind, ElementLine, MixLine, ProfileLine, Summary};
 use itoa::Buffer;
 use std::alloc::{AllocError, Global};
 
@@ -43,7 +43,7 @@ fn push_number(text: &mut Vec<u8>, number: u64) -> Result<(), AllocError>
 }
 
 /// Puts a space and the word.
-#[tactic(auto, using(crate::proofs::Texts::append_law))]
+#[tactic(auto, using(spec_bits::proofs::JoinLaws::joins))]
 fn push_word(text: &mut Vec<u8>, word: &[u8]) -> Result<(), AllocError>
     ensures { OnOk result (text.new.items ≡ text.old.items ++ 32 ∷ word.now) }
 {
@@ -52,18 +52,18 @@ fn push_word(text: &mut Vec<u8>, word: &[u8]) -> Result<(), AllocError>
     Ok(())
 }
 
-#[tactic(auto, using(crate::proofs::Texts::append_law))]
-fn push_profile(text: &mut Vec<u8>, primary: u8, additional: u8) -> Result<(), AllocError>
-    ensures { OnOk result (text.new.items ≡ text.old.items ++ profile_text primary additional) }
+#[tactic(auto, using(spec_bits::proofs::JoinLaws::joins))]
+fn push_profile(text: &mut Vec<u8>, profile: &ProfileLine) -> Result<(), AllocError>
+    ensures { OnOk result (text.new.items ≡ text.old.items ++ profile_text profile.now) }
 {
     text.extend_from_slice(b"profile")?;
-    push_number(text, u64::from(primary))?;
-    push_number(text, u64::from(additional))?;
+    push_number(text, u64::from(profile.primary))?;
+    push_number(text, u64::from(profile.additional))?;
     text.push(b'\n')?;
     Ok(())
 }
 
-#[tactic(auto, using(crate::proofs::Texts::append_law))]
+#[tactic(auto, using(spec_bits::proofs::JoinLaws::joins))]
 fn push_codec(text: &mut Vec<u8>, codec: &CodecLine) -> Result<(), AllocError>
     ensures { OnOk result (text.new.items ≡ text.old.items ++ codec_text codec.now) }
 {
@@ -77,7 +77,7 @@ fn push_codec(text: &mut Vec<u8>, codec: &CodecLine) -> Result<(), AllocError>
     Ok(())
 }
 
-#[tactic(auto, using(crate::proofs::Texts::append_law))]
+#[tactic(auto, using(spec_bits::proofs::JoinLaws::joins))]
 fn push_element(text: &mut Vec<u8>, element: &ElementLine) -> Result<(), AllocError>
     ensures { OnOk result (text.new.items ≡ text.old.items ++ element_text element.now) }
 {
@@ -90,7 +90,7 @@ fn push_element(text: &mut Vec<u8>, element: &ElementLine) -> Result<(), AllocEr
     Ok(())
 }
 
-#[tactic(auto, using(crate::proofs::Texts::append_law))]
+#[tactic(auto, using(spec_bits::proofs::JoinLaws::joins))]
 fn push_mix(text: &mut Vec<u8>, mix: &MixLine) -> Result<(), AllocError>
     ensures { OnOk result (text.new.items ≡ text.old.items ++ mix_text mix.now) }
 {
@@ -103,7 +103,7 @@ fn push_mix(text: &mut Vec<u8>, mix: &MixLine) -> Result<(), AllocError>
     Ok(())
 }
 
-#[tactic(auto, using(crate::proofs::Texts::append_law))]
+#[tactic(auto, using(spec_bits::proofs::JoinLaws::joins))]
 fn push_counts(text: &mut Vec<u8>, units: usize, kept: u64) -> Result<(), AllocError>
     ensures { OnOk result (text.new.items ≡ text.old.items ++ count_text units kept) }
 {
@@ -135,12 +135,12 @@ fn push_mixes(text: &mut Vec<u8>, mixes: &[MixLine]) -> Result<(), AllocError>
 }
 
 /// Prints a summary.
-#[tactic(auto, using(crate::proofs::Texts::append_law), unfolding(crate::specs::Lines::printed))]
+#[tactic(auto, using(spec_bits::proofs::JoinLaws::joins), unfolding(crate::specs::Lines::printed))]
 fn print(alloc: Global, summary: &Summary) -> Result<Vec<u8>, AllocError>
     ensures { IfOk result (λ v. v.items ≡ printed summary.now) }
 {
     let mut text = Vec::new(alloc);
-    push_profile(&mut text, summary.primary, summary.additional)?;
+    push_profile(&mut text, &summary.profile)?;
     push_codec(&mut text, &summary.codec)?;
     push_elements(&mut text, summary.elements.as_slice())?;
     push_mixes(&mut text, summary.mixes.as_slice())?;

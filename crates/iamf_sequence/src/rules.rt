@@ -8,7 +8,7 @@ ghost use Rattle.spec_descriptors.specs.CodecConfig.{CodecConfigFields, codec_co
 ghost use Rattle.spec_descriptors.specs.AudioElement.{audio_element, substream_channels_of};
 ghost use Rattle.spec_descriptors.specs.DescriptorFields.{codec_config_fields};
 ghost use Rattle.spec_descriptors.specs.ElementFields.{audio_element_fields};
-ghost use Rattle.spec_sequence.specs.Role.{Role, timing_of, codec_role, element_role, mix_role, role_in};
+ghost use Rattle.spec_sequence.specs.Role.{Role, timing_of, role_of_codec, element_role, mix_role, role_in};
 ghost use Rattle.spec_sequence.specs.Role as roles;
 ghost use Rattle.spec_sequence.specs.Content as contents;
 ghost use Rattle.spec_sequence.specs.Content.{kind_of};
@@ -46,7 +46,7 @@ pub(crate) struct Rules {
 
 fn codec_role(codec: &CodecConfig<'_>) -> CodecRole
     requires { codec.now.frame_length < 65536 }
-    ensures { (c : CodecConfigFields) → StandsForCodec codec.now c → view_codec result ≡ codec_role c.codec_config_id c.num_samples_per_frame c.coding }
+    ensures { (c : CodecConfigFields) → StandsForCodec codec.now c → view_codec result ≡ role_of_codec c }
 {
     let frame_length = codec.frame_length as u16;
     match codec.coding {
@@ -185,7 +185,7 @@ impl Rules {
     fn admit_codec(&mut self, codec: &CodecConfig<'_>) -> Result<(), AdmitError>
         requires valid { (c : CodecConfigFields) × StandsForCodec codec.now c × IsValid codec_config codec_config_fields c }
         ensures tests { (l : List Role) (c : CodecConfigFields) → StandsFor self.old l → fault_before l contents.CodecConfig ≡ None → StandsForCodec codec.now c
-            → Tests self.new result l (roles.CodecConfig (codec_role c.codec_config_id c.num_samples_per_frame c.coding)) }
+            → Tests self.new result l (roles.CodecConfig (role_of_codec c)) }
         ensures rises { Rises self.old self.new result }
     {
         self.admission.admit_codec(codec_role(codec))

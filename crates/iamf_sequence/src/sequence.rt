@@ -46,7 +46,8 @@ impl<'a> Model for Sequence<'a> {
 impl<'a> Sequence<'a> {
     /// How many OBUs there are.
     pub fn count(&self) -> usize
-        ensures { (l : List Entry) → IsSequence self.now l → result ≡ length l }
+        ensures counts { (l : List Entry) → IsSequence self.now l → result ≡ length l }
+        ensures places { result ≡ length self.now.obus.items }
     {
         self.parts.obus.as_slice().len()
     }
@@ -75,7 +76,8 @@ impl<'a> Sequence<'a> {
 
     /// How many audio elements there are.
     pub fn element_count(&self) -> usize
-        ensures { (l : List Entry) → IsSequence self.now l → result ≡ length (audio_elements (values_of l)) }
+        ensures counts { (l : List Entry) → IsSequence self.now l → result ≡ length (audio_elements (values_of l)) }
+        ensures places { result ≡ length self.now.elements.items }
     {
         self.parts.elements.as_slice().len()
     }
@@ -90,7 +92,8 @@ impl<'a> Sequence<'a> {
 
     /// How many mix presentations there are.
     pub fn mix_count(&self) -> usize
-        ensures { (l : List Entry) → IsSequence self.now l → result ≡ length (mix_presentations (values_of l)) }
+        ensures counts { (l : List Entry) → IsSequence self.now l → result ≡ length (mix_presentations (values_of l)) }
+        ensures places { result ≡ length self.now.mixes.items }
     {
         self.parts.mixes.as_slice().len()
     }
@@ -105,7 +108,8 @@ impl<'a> Sequence<'a> {
 
     /// How many temporal units there are.
     pub fn unit_count(&self) -> usize
-        ensures { (l : List Entry) → IsSequence self.now l → result ≡ unit_count (roles l) }
+        ensures counts { (l : List Entry) → IsSequence self.now l → result ≡ unit_count (roles l) }
+        ensures places { result ≡ length self.now.units.items }
     {
         self.parts.units.as_slice().len()
     }

@@ -4,10 +4,11 @@ ghost use Rattle.std.specs.Prelude.{◌≡◌, ◌∷◌, ◌++◌, [], ℕ, Lis
 ghost use Rattle.std.specs.List.{All};
 ghost use Rattle.spec_descriptors.specs.CodecConfig.{CodecConfigFields};
 ghost use Rattle.spec_descriptors.specs.AudioElement.{coded_channels_of};
-ghost use Rattle.spec_sequence.specs.Role.{ElementRole, Role, codec_role, element_role};
+ghost use Rattle.spec_sequence.specs.Role.{ElementRole, Role, role_of_codec, element_role};
 ghost use Rattle.spec_sequence.specs.Profile.{channels_of_element, fits_sub_mixes};
 ghost use Rattle.spec_sequence.specs.Report as reports;
 ghost use Rattle.spec_sequence.specs.Reading.{Entry, values_of};
+ghost use Rattle.obu_descriptors.specs.HeaderView.{view_header};
 ghost use Rattle.obu_descriptors.specs.CodecView.{StandsForCodec};
 ghost use Rattle.obu_descriptors.specs.ConfigView.{view_config};
 ghost use Rattle.obu_descriptors.specs.ElementView.{view_element};
@@ -15,18 +16,31 @@ ghost use Rattle.obu_mix.specs.MixView.{view_mix};
 ghost use Rattle.iamf_sequence.specs.ContentView.{IsElement};
 ghost use Rattle.iamf_sequence.specs.Lines.{kind_name};
 ghost use Rattle.iamf_sequence.specs.SequenceView.{IsSequence};
-ghost use Rattle.iamf_sequence.specs.Summing.{IsCodecLine, IsElementLine, IsMixLine, AreElementLines, AreMixLines, AreTotals, Knows, elements_named, named, IsSummary};
+ghost use Rattle.iamf_sequence.specs.Summing.{IsProfileLine, IsCodecLine, IsElementLine, IsMixLine, AreElementLines, AreMixLines, AreTotals, Knows, elements_named, named, IsSummary};
 
-use crate::lines::{CodecLine, ElementKind, ElementLine, MixLine, Summary};
+use crate::lines::{CodecLine, ElementKind, ElementLine, MixLine, ProfileLine, Summary};
 use crate::sequence::Sequence;
 use iamf_admission::{fits_one, fits_two};
-use obu_descriptors::{AudioElement, CodecConfig, Coding, ElementConfig, coded_channels};
+use obu_descriptors::{
+    AudioElement, CodecConfig, Coding, ElementConfig, SequenceHeader, coded_channels,
+};
 use obu_mix::{MixElement, MixPresentation, SubMix};
 use std::alloc::{AllocError, Global};
 use std::collections::BTreeMap;
 
-fn codec_line(codec: &CodecConfig<'_>) -> CodecLine
-    ensures { (c : CodecConfigFields) → StandsForCodec codec.now c → IsCodecLine result (codec_role c.codec_config_id c.num_samples_per_frame c.coding) }
+/// The line of a sequence header.
+pub(crate) fn profile_line(header: &SequenceHeader<'_>) -> ProfileLine
+    ensures { IsProfileLine result (view_header header.now) }
+{
+    ProfileLine {
+        primary: header.primary,
+        additional: header.additional,
+    }
+}
+
+/// The line of a codec config.
+pub(crate) fn codec_line(codec: &CodecConfig<'_>) -> CodecLine
+    ensures { (c : CodecConfigFields) → StandsForCodec codec.now c → IsCodecLine result (role_of_codec c) }
 {
     let (is_flac, depth, rate) = match codec.coding {
         Coding::Lpcm { depth, rate, .. } => (false, depth, rate),
@@ -63,7 +77,7 @@ fn known_channels(channels: Option<u32>) -> u32
 }
 
 /// The line of an element of so many coded channels, where their number is known.
-fn element_line(element: &AudioElement<'_>, channels: Option<u32>) -> ElementLine
+pub(crate) fn element_line(element: &AudioElement<'_>, channels: Option<u32>) -> ElementLine
     ensures { let e = view_element element.now in channels ≡ coded_channels_of e.config → IsElementLine result e }
 {
     ElementLine {
@@ -91,7 +105,7 @@ fn element_lines(
 
 /// Adds the number of channels of an element that stands after others, where it is known. The first element of an id
 /// counts. An `Err` comes only where memory runs out.
-fn add_total(
+pub(crate) fn add_total(
     totals: &mut BTreeMap<u32, Option<u32>>,
     id: u32,
     total: Option<u32>,
@@ -176,7 +190,7 @@ fn fits(primary: u8, totals: &BTreeMap<u32, Option<u32>>, sub_mixes: &[SubMix<'_
 }
 
 /// The line of a mix presentation. An `Err` comes only where memory runs out.
-fn mix_line(
+pub(crate) fn mix_line(
     primary: u8,
     totals: &BTreeMap<u32, Option<u32>>,
     mix: &MixPresentation<'_>,
@@ -220,8 +234,7 @@ pub fn summary(alloc: Global, sequence: &Sequence<'_>) -> Result<Summary, AllocE
     let elements = element_lines(alloc, parts.elements.as_slice())?;
     let mixes = mix_lines(alloc, primary, &totals, parts.mixes.as_slice())?;
     Ok(Summary {
-        primary,
-        additional: parts.header.additional,
+        profile: profile_line(&parts.header),
         codec: codec_line(&parts.codec),
         elements,
         mixes,

@@ -78,7 +78,8 @@ impl<'a> Unit<'a> {
 
     /// How many parameter blocks the unit has.
     pub fn block_count(&self) -> usize
-        ensures { (v : UnitValue) → IsUnit self.now v → result ≡ length v.blocks }
+        ensures counts { (v : UnitValue) → IsUnit self.now v → result ≡ length v.blocks }
+        ensures places { result ≡ length self.now.blocks.items }
     {
         self.blocks.as_slice().len()
     }

@@ -2,7 +2,7 @@ ghost use Rattle.std.specs.Prelude.{◌≤◌, ◌^◌, length, IfOk};
 ghost use Rattle.iamf_tool.specs.Outcome.{Outcome};
 ghost use Rattle.iamf_tool.specs.Answers.{view_answer};
 
-use crate::checking::{check, respell};
+use crate::checking::{canon, check};
 use crate::command::Command;
 use crate::listing::list_lines;
 use std::alloc::{AllocError, Global};
@@ -24,6 +24,6 @@ pub fn answer_of(alloc: Global, command: Command, bytes: &[u8]) -> Result<Answer
     match command {
         Command::List => list_lines(alloc, bytes),
         Command::Check => check(alloc, bytes),
-        Command::Canon => respell(alloc, bytes),
+        Command::Canon => canon(alloc, bytes),
     }
 }

@@ -3,14 +3,12 @@ ghost use Rattle.std.specs.Prelude.{◌≡◌, ◌≤◌, ◌^◌, ℕ, List, le
 ghost use Rattle.spec_sequence.specs.Value.{ObuValue};
 ghost use Rattle.spec_sequence.specs.Report.{report};
 ghost use Rattle.spec_sequence.specs.Canonical.{encoded};
-ghost use Rattle.spec_sequence.specs.Reading.{Entry, values_of};
 ghost use Rattle.iamf_sequence.specs.Places.{IsRefused};
-ghost use Rattle.iamf_sequence.specs.SequenceView.{IsSequence};
 ghost use Rattle.iamf_tool.specs.Outcome.{SequenceGives};
 ghost use Rattle.iamf_tool.specs.Answers.{view_answer};
 
 use crate::answer::Answer;
-use iamf_sequence::{DecodeError, Sequence, decode, encode, report, summary};
+use iamf_sequence::{DecodeError, report, respell, summarize};
 use std::alloc::{AllocError, Global};
 
 // The answer to bytes that are not read.
@@ -26,32 +24,24 @@ fn answer_to(error: DecodeError) -> Result<Answer, AllocError>
     }
 }
 
-// The report of a sequence.
-fn report_of(alloc: Global, sequence: &Sequence<'_>) -> Result<Vec<u8>, AllocError>
-    ensures { IfOk result (λ v. (l : List Entry) → IsSequence sequence.now l → v.items ≡ report (values_of l)) }
-{
-    let summary = summary(alloc, sequence)?;
-    report(alloc, &summary)
-}
-
 /// The report of the sequence that the bytes are, or their first fault.
 pub fn check(alloc: Global, bytes: &[u8]) -> Result<Answer, AllocError>
     requires { length bytes.now ≤ 2 ^ 30 }
     ensures { IfOk result (λ a. SequenceGives report bytes.now (view_answer a)) }
 {
-    match decode(alloc, bytes) {
-        Ok(sequence) => Ok(Answer::Output(report_of(alloc, &sequence)?)),
+    match summarize(alloc, bytes) {
+        Ok(summary) => Ok(Answer::Output(report(alloc, &summary)?)),
         Err(error) => answer_to(error),
     }
 }
 
 /// The canonical spelling of the sequence that the bytes are, or their first fault.
-pub fn respell(alloc: Global, bytes: &[u8]) -> Result<Answer, AllocError>
+pub fn canon(alloc: Global, bytes: &[u8]) -> Result<Answer, AllocError>
     requires { length bytes.now ≤ 2 ^ 30 }
     ensures { IfOk result (λ a. SequenceGives encoded bytes.now (view_answer a)) }
 {
-    match decode(alloc, bytes) {
-        Ok(sequence) => Ok(Answer::Output(encode(alloc, &sequence)?)),
+    match respell(alloc, bytes) {
+        Ok(spelling) => Ok(Answer::Output(spelling)),
         Err(error) => answer_to(error),
     }
 }

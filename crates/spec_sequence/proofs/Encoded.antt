@@ -1,26 +1,26 @@
 -- What is written of a sequence that was read reads as the same values, and canonical bytes are written as they were.
-use Rattle.std.proofs.Common.{◌≡◌, ℕ, zero, suc, ◌<◌, ◌≤◌, Bool, true, false, not, ◌&&◌, ◌||◌, ◌==◌, nat_le, inl, inr, List, [], ◌∷◌, ◌++◌, map, refl, sym, ap, subst, ◌∙◌, arith}
-use Rattle.std.specs.Prelude.{None, IsTrue, is_some}
+use Rattle.std.proofs.Common.{◌≡◌, ℕ, true, inl, inr, List, [], ◌∷◌, ◌++◌, map, refl, sym, ap, subst, ◌∙◌}
+use Rattle.std.specs.Prelude.{None}
 use Rattle.std.specs.Str.{bytes_eq}
 use Rattle.std.specs.Cmp.Lexicographic.{bytes_decides}
-use Rattle.std.proofs.lemmas.Bool.{and_parts, or_cases, or_left, or_right, not-true, eqb-true, leb-true, leb-false}
+use Rattle.std.proofs.lemmas.Bool.{or_cases, or_left, or_right, cases_Bool, eq-eqb}
 use Rattle.std.proofs.lemmas.List.{map-append}
-use Rattle.spec_obu.specs.Header.{Head, are_allowed}
-use Rattle.spec_obu.specs.Kinds.{is_audio_frame, is_descriptor_or_reserved}
-use Rattle.spec_sequence.specs.declared.fault.Fault.{Fault}
 use Rattle.spec_sequence.specs.declared.fault.Fault.TheVariants as fault
-use Rattle.spec_sequence.specs.Content.{Content, kind_of, PayloadOf}
+use Rattle.spec_sequence.specs.Content.{Content, kind_of, PayloadOf, is_descriptor}
 use Rattle.spec_sequence.specs.Value.{ObuValue, Spells}
 use Rattle.spec_sequence.specs.Canonical.{canonical_payload, canonical_obu, encoded}
 use Rattle.spec_sequence.specs.Role.{Role, role}
 use Rattle.spec_sequence.specs.Descriptors.{frame_length, context_of}
-use Rattle.spec_sequence.specs.Rules.{when, fault_after, end_fault}
-use Rattle.spec_sequence.specs.Reading.{Entry, values_of, roles, context_after, is_reserved, is_copy, is_copied, is_repeated, early_fault, IsAdmissible, AdmittedAfter}
+use Rattle.spec_sequence.specs.Rules.{fault_after, end_fault, fault_before}
+use Rattle.spec_sequence.specs.Reading.{Entry, values_of, roles, context_after, is_copy, is_copied, is_repeated, early_fault, IsAdmissible, AdmittedAfter}
 use Rattle.spec_sequence.specs.Laws.{EncodedReads, EncodedSame}
 use Rattle.spec_sequence.proofs.Payloads.{one_content, payload_of}
 use Rattle.spec_sequence.proofs.Obus.{canonical_spells}
 use Rattle.spec_sequence.proofs.OneAnswer.{one_reading}
-use Rattle.spec_sequence.proofs.FixedContext.{is_descriptor, by_length, payload_now, IsKnown, Known, Keeps, keeps-nil, keeps-push}
+use Rattle.spec_sequence.proofs.FixedContext.{payload_now, IsKnown, Known, Keeps, keeps-nil, keeps-push}
+use Rattle.spec_sequence.proofs.Contents.{by_length}
+use Rattle.spec_sequence.proofs.NoFault.{is_there}
+use Rattle.spec_sequence.proofs.RedundantCopies.{copy_kind, copied_parts, early_copy, early_plain}
 
 -- the same OBU with its canonical payload
 abbrev rewritten : Entry → Entry
@@ -37,55 +37,21 @@ values-rewritten : (es : List Entry) → values_of (all_rewritten es) ≡ values
 values-rewritten [] = refl
 values-rewritten (e ∷ es) = ap (λ (l : List ObuValue). e.value ∷ l) (values-rewritten es)
 
--- ---- what may be a copy
-
-second_and : (a b : Bool) → a ≡ true → (a && b) ≡ false → b ≡ false
-second_and true b t e = e
-second_and false b t e = absurd cc
-
-either_true : (a b : Bool) → a ≡ true → (not a || b) ≡ true → b ≡ true
-either_true true b t e = e
-either_true false b t e = absurd cc
-
-small_kind : (n : ℕ) → n ≤ 2 → is_descriptor (kind_of n) ≡ true
-small_kind zero le = refl
-small_kind (suc zero) le = refl
-small_kind (suc (suc zero)) le = refl
-small_kind (suc (suc (suc n))) le = absurd (omega arith)
-
-last_kind : (n : ℕ) → n ≡ 31 → is_descriptor (kind_of n) ≡ true
-last_kind n e = rw e refl
-
-copy_kind : (h : Head) → h.kind < 32 → IsTrue (are_allowed h.kind h.redundant (is_some h.trim)) → is_copy h ≡ true → is_descriptor (kind_of h.kind) ≡ true
-copy_kind h small allowed copy =
-    let c = and_parts h.redundant (not (is_reserved h.kind)) copy in
-    let a = and_parts (not (is_some h.trim) || is_audio_frame h.kind) (not h.redundant || is_descriptor_or_reserved h.kind) allowed in
-    let d : is_descriptor_or_reserved h.kind ≡ true = either_true h.redundant (is_descriptor_or_reserved h.kind) c.0 a.1 in
-    let r : is_reserved h.kind ≡ false = not-true (is_reserved h.kind) c.1 in
-    elim (or_cases (nat_le h.kind 2) (nat_le 24 h.kind) d) [
-      | inl low ↦ small_kind h.kind (leb-true h.kind 2 low)
-      | inr high ↦
-          let over : 30 < h.kind = leb-false h.kind 30 (second_and (nat_le 24 h.kind) (nat_le h.kind 30) high r) in
-          last_kind h.kind (omega (arith, over, small))
-    ]
-
 -- ---- a redundant copy repeats the same OBU
 
 copied_again : (n : ℕ) (o : ObuValue) (payload : List ℕ) (e : Entry) → IsKnown n e → is_descriptor (kind_of o.head.kind) ≡ true → PayloadOf (by_length n) o.head.kind o.content o.tail payload
     → is_copied o.head payload e ≡ true → is_copied o.head (canonical_payload o) (rewritten e) ≡ true
 copied_again n o payload e known descriptor h same =
-    let a = and_parts (not e.value.head.redundant) ((e.value.head.kind == o.head.kind) && bytes_eq e.payload payload) same in
-    let b = and_parts (e.value.head.kind == o.head.kind) (bytes_eq e.payload payload) a.1 in
-    let kinds : e.value.head.kind ≡ o.head.kind = eqb-true e.value.head.kind o.head.kind b.0 in
-    let payloads : e.payload ≡ payload = (bytes_decides e.payload payload).0 b.1 in
-    let old = known (not-true e.value.head.redundant a.0) (subst (λ (k : ℕ). is_descriptor (kind_of k) ≡ true) (sym kinds) descriptor) in
+    let parts = copied_parts o.head payload e same in
+    let kinds : e.value.head.kind ≡ o.head.kind = parts.1 in
+    let old = known parts.0 (subst (λ (k : ℕ). is_descriptor (kind_of k) ≡ true) (sym kinds) descriptor) in
     let was : PayloadOf (by_length n) o.head.kind e.value.content e.value.tail payload =
-    subst (λ (k : ℕ). PayloadOf (by_length n) k e.value.content e.value.tail payload) kinds (subst (λ (p : List ℕ). PayloadOf (by_length n) e.value.head.kind e.value.content e.value.tail p) payloads old) in
+    subst (λ (k : ℕ). PayloadOf (by_length n) k e.value.content e.value.tail payload) kinds (subst (λ (p : List ℕ). PayloadOf (by_length n) e.value.head.kind e.value.content e.value.tail p) parts.2 old) in
     let one = one_content (by_length n) o.head.kind payload e.value.tail o.tail e.value.content o.content was h in
     let written : canonical_payload e.value ≡ canonical_payload o =
     ap (λ (k : ℕ). payload_of k e.value.content e.value.tail) kinds ∙ ap (λ (c : Content). payload_of o.head.kind c e.value.tail) one.0 ∙ ap (payload_of o.head.kind o.content) one.1 in
     let equal : bytes_eq (canonical_payload e.value) (canonical_payload o) ≡ true = (bytes_decides (canonical_payload e.value) (canonical_payload o)).1 written in
-    rw (a.0, b.0, equal) refl
+    rw (parts.0, eq-eqb e.value.head.kind o.head.kind kinds, equal) refl
 
 repeated_again : (n : ℕ) (o : ObuValue) (payload : List ℕ) (past : List Entry) → Known n past → is_descriptor (kind_of o.head.kind) ≡ true → PayloadOf (by_length n) o.head.kind o.content o.tail payload
     → is_repeated past o.head payload ≡ true → is_repeated (all_rewritten past) o.head (canonical_payload o) ≡ true
@@ -95,24 +61,19 @@ repeated_again n o payload (x ∷ xs) known descriptor h e = elim (or_cases (is_
   | inr there ↦ or_right (is_copied o.head (canonical_payload o) (rewritten x)) (is_repeated (all_rewritten xs) o.head (canonical_payload o)) (repeated_again n o payload xs known.1 descriptor h there)
 ]
 
-is_there : (b : Bool) (f : Fault) → when (not b) f ≡ None → b ≡ true
-is_there true f e = refl
-is_there false f e = absurd cc
-
 -- ---- no fault comes by canonical payloads
 
 early_again : (past : List Entry) (o : ObuValue) (payload piece : List ℕ) → Keeps past → Spells (context_after past) o payload piece
     → early_fault past o.head payload ≡ None → early_fault (all_rewritten past) o.head (canonical_payload o) ≡ None
-unfolding early_fault
-early_again past o payload piece k s none = go (is_copy o.head) refl
-  where
-    go : (b : Bool) → is_copy o.head ≡ b → early_fault (all_rewritten past) o.head (canonical_payload o) ≡ None
-    go true e =
-        let descriptor = copy_kind o.head s.header.kind_is s.header.allowed e in
-        let there = is_there (is_repeated past o.head payload) fault.Redundant (rw e at none) in
-        let now = payload_now past o.head.kind o.content o.tail payload descriptor s.payload_is in
-        rw (e, repeated_again (frame_length (roles past)) o payload past k.known descriptor now there) refl
-    go false e = rw (e, roles-rewritten past) (rw e at none)
+early_again past o payload piece k s none = elim (cases_Bool (is_copy o.head)) [
+  | inl copy ↦
+      let descriptor = copy_kind o.head s.header.kind_is s.header.allowed copy in
+      let there = is_there (is_repeated past o.head payload) fault.Redundant (sym (early_copy past o.head payload copy) ∙ none) in
+      let now = payload_now past o.head.kind o.content o.tail payload descriptor s.payload_is in
+      early_copy (all_rewritten past) o.head (canonical_payload o) copy ∙ rw (repeated_again (frame_length (roles past)) o payload past k.known descriptor now there) refl
+  | inr plain ↦
+      early_plain (all_rewritten past) o.head (canonical_payload o) plain ∙ ap (λ (l : List Role). fault_before l (kind_of o.head.kind)) (roles-rewritten past) ∙ sym (early_plain past o.head payload plain) ∙ none
+]
 
 -- ---- the whole list
 

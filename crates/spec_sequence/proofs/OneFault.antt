@@ -1,6 +1,7 @@
 -- What stands at the front of bytes is an OBU without a fault, or has one fault, and not both.
 use Rattle.std.proofs.Common.{◌≡◌, ℕ, ◌<◌, List, [], ◌∷◌, ◌++◌, length, refl, sym, ap, subst, ◌∙◌, arith}
 use Rattle.std.specs.Prelude.{Option, Some, None}
+use Rattle.std.proofs.lemmas.Option.{same_Some}
 use Rattle.spec_obu.specs.declared.HeaderFault.{HeaderFault}
 use Rattle.spec_obu.specs.Header.{Head}
 use Rattle.spec_obu.proofs.FaultLaws.{one_first}
@@ -19,14 +20,8 @@ pub apart : (o : Option Fault) (f : Fault) → o ≡ None → o ≡ Some f → �
 apart None f e g = cc
 apart (Some x) f e g = cc
 
-abbrev some_fault : Fault → Option Fault
-some_fault f = Some f
-
-some_is : (f g : Fault) → some_fault f ≡ some_fault g → f ≡ g
-some_is f g e = cc
-
 same_some : (o : Option Fault) (f g : Fault) → o ≡ Some f → o ≡ Some g → f ≡ g
-same_some o f g h k = some_is f g (sym h ∙ k)
+same_some o f g h k = same_Some f g (sym h ∙ k)
 
 begun : (b : List ℕ) → (b ≡ [] → ⊥) → 0 < length b
 begun [] e = absurd (e refl)

@@ -1,5 +1,5 @@
 -- What the payload of an OBU says, by the type of the OBU (IAMF 1.0.0, "OBU Header Syntax and Semantics", `obu_type`).
-use Rattle.std.specs.Prelude.{◌≡◌, ℕ, ◌==◌, nat_le, if◌then◌else◌, List, []}
+use Rattle.std.specs.Prelude.{◌≡◌, ℕ, ◌==◌, nat_le, Bool, true, false, if◌then◌else◌, List, []}
 use Rattle.spec_bits.specs.declared.FieldFault.{FieldFault}
 use Rattle.spec_bits.specs.Bits.{AreBytes, all_bits}
 use Rattle.spec_syntax.specs.Payload.{FieldValue, Payload, Faults}
@@ -43,6 +43,14 @@ kind_of obu_type =
     else if obu_type == 4 then TemporalDelimiter
     else if nat_le obu_type 23 then AudioFrame
     else Reserved
+
+-- the kinds of which there are redundant copies
+abbrev pub is_descriptor : Kind → Bool
+is_descriptor SequenceHeader = true
+is_descriptor CodecConfig = true
+is_descriptor AudioElement = true
+is_descriptor MixPresentation = true
+is_descriptor _ = false
 
 -- An audio frame has the id of its substream. Of a delimiter and of a reserved OBU nothing is read.
 pub data Content : Type 0 where

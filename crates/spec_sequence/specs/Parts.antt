@@ -1,6 +1,6 @@
 -- What a sequence is made of: its descriptors, and its temporal units with their frames and blocks
 -- (IAMF 1.0.0, "IA Sequence Structure" and "Temporal Unit").
-use Rattle.std.specs.Prelude.{ℕ, zero, suc, ◌==◌, Bool, if◌then◌else◌, List, [], ◌∷◌, ◌++◌, map}
+use Rattle.std.specs.Prelude.{ℕ, zero, suc, ◌==◌, if◌then◌else◌, List, [], ◌∷◌, ◌++◌, map}
 use Rattle.std.specs.List.{flat_map}
 use Rattle.spec_obu.specs.Header.{Head}
 use Rattle.spec_descriptors.specs.SequenceHeader.{SequenceHeaderFields}

@@ -6,7 +6,7 @@ use Rattle.spec_descriptors.specs.SequenceHeader.{SequenceHeaderFields}
 use Rattle.spec_descriptors.specs.AudioElement.{ConfigFields, Scalable, Ambisonics, Other, AudioElementFields, coded_channels_of}
 use Rattle.spec_descriptors.specs.MixPresentation.{MixPresentationFields}
 use Rattle.spec_sequence.specs.Value.{ObuValue}
-use Rattle.spec_sequence.specs.Role.{CodecRole, codec_role, Trim, Role, mix_role}
+use Rattle.spec_sequence.specs.Role.{CodecRole, role_of_codec, Trim, Role, mix_role}
 use Rattle.spec_sequence.specs.Descriptors.{frame_length}
 use Rattle.spec_sequence.specs.Profile.{fits}
 use Rattle.spec_sequence.specs.Units.{trims_in, unit_count}
@@ -77,5 +77,5 @@ counts l = ended (and_number (codes "units") (unit_count l)) ++ ended (and_numbe
 unfoldable pub report : List ObuValue → List ℕ
 report s =
     flat_map header_line (sequence_headers s)
-    ++ (flat_map (λ c. codec_line (codec_role c.codec_config_id c.num_samples_per_frame c.coding)) (codec_configs s)
+    ++ (flat_map (λ c. codec_line (role_of_codec c)) (codec_configs s)
     ++ (flat_map element_line (audio_elements s) ++ (flat_map (mix_line (roles_of s)) (mix_presentations s) ++ counts (roles_of s))))

@@ -2,7 +2,7 @@
 use Rattle.std.specs.Prelude.{ℕ, ◌+◌, ◌*◌, ◌==◌, Bool, true, false, if◌then◌else◌, List, [], ◌∷◌, ◌++◌, map, length, Option, Some, None}
 use Rattle.std.specs.List.{flat_map}
 use Rattle.spec_obu.specs.Header.{Head}
-use Rattle.spec_descriptors.specs.CodecConfig.{CodingFields, Lpcm, Flac}
+use Rattle.spec_descriptors.specs.CodecConfig.{CodingFields, Lpcm, Flac, CodecConfigFields}
 use Rattle.spec_descriptors.specs.ParameterDefinition.{FixedFields}
 use Rattle.spec_descriptors.specs.Layers.{LayerFields}
 use Rattle.spec_descriptors.specs.AudioElement.{ParameterFields, Demixing, ReconGain, Extension, ConfigFields, Scalable, Ambisonics, Other, AudioElementFields, substream_channels_of}
@@ -66,6 +66,9 @@ abbrev pub codec_role : ℕ → ℕ → CodingFields → CodecRole
 codec_role id frame_length (Lpcm is_little depth rate) = record { id = id; frame_length = frame_length; is_flac = false; depth = depth; rate = rate }
 codec_role id frame_length (Flac info others) = record { id = id; frame_length = frame_length; is_flac = true; depth = info.depth_less_one + 1; rate = info.sample_rate }
 
+abbrev pub role_of_codec : CodecConfigFields → CodecRole
+role_of_codec c = codec_role c.codec_config_id c.num_samples_per_frame c.coding
+
 -- ---- the parameter definitions of elements and of mixes
 
 abbrev pub layers_of : ConfigFields → List LayerFields
@@ -127,7 +130,7 @@ role_of_nothing obu_type = if obu_type == 4 then Delimiter else Ignored
 
 abbrev pub plain_role : Head → Content → List ℕ → Role
 plain_role h (Header header) tail = SequenceHeader header.primary_profile
-plain_role h (Codec c) tail = CodecConfig (codec_role c.codec_config_id c.num_samples_per_frame c.coding)
+plain_role h (Codec c) tail = CodecConfig (role_of_codec c)
 plain_role h (Element e) tail = AudioElement (element_role e)
 plain_role h (Mix m) tail = MixPresentation (mix_role m)
 plain_role h (Block b) tail = ParameterBlock (record { id = b.parameter_id; timing = timing_of b.content })

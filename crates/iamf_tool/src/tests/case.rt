@@ -2,6 +2,7 @@
 use crate::run::run;
 use crate::status::Status;
 use iamf_io::{MemorySink, MemorySource};
+use iamf_sequence::{decode, encode, encode_obu, report, summary};
 use std::alloc::{AllocError, Global};
 
 /// What a run takes, and how it ends.
@@ -80,4 +81,41 @@ pub fn whole(alloc: Global, parts: &[&[u8]]) -> Result<Vec<u8>, AllocError> {
         bytes.extend_from_slice(part)?;
     }
     Ok(bytes)
+}
+
+/// Whether this is the report on the sequence that is kept of the input.
+pub fn reports(alloc: Global, input: &[&[u8]], lines: &[&[u8]]) -> Result<bool, AllocError> {
+    let bytes = whole(alloc, input)?;
+    let wanted = whole(alloc, lines)?;
+    if bytes.len() > 1 << 30 {
+        return Ok(false);
+    }
+    match decode(alloc, &bytes) {
+        Ok(sequence) => {
+            let summary = summary(alloc, &sequence)?;
+            Ok(report(alloc, &summary)?.as_slice() == wanted.as_slice())
+        }
+        Err(_) => Ok(false),
+    }
+}
+
+/// Whether this is the canonical spelling of the sequence that is kept of the input, and of its OBUs one by one.
+pub fn encodes(alloc: Global, input: &[&[u8]], spelling: &[&[u8]]) -> Result<bool, AllocError> {
+    let bytes = whole(alloc, input)?;
+    let wanted = whole(alloc, spelling)?;
+    if bytes.len() > 1 << 30 {
+        return Ok(false);
+    }
+    match decode(alloc, &bytes) {
+        Ok(sequence) => {
+            let mut parts = Vec::new(alloc);
+            for i in 0..sequence.count() {
+                let part = encode_obu(alloc, &sequence, i)?;
+                parts.extend_from_slice(&part)?;
+            }
+            let all = encode(alloc, &sequence)?;
+            Ok(all.as_slice() == wanted.as_slice() && parts.as_slice() == wanted.as_slice())
+        }
+        Err(_) => Ok(false),
+    }
 }

@@ -1,5 +1,5 @@
 //! `check` and `canon` on worked examples.
-use super::case::{Case, whole};
+use super::case::{Case, encodes, reports, whole};
 use super::parts::{
     BLOCK, CODEC, DELIMITER, DESCRIPTORS, ELEMENT, FLAC, HEAD, HEADER, MIX, MIX_OF_BOTH, MONO,
     OPUS, SAMPLES, SECOND_ELEMENT,
@@ -150,6 +150,7 @@ fn sequences_are_reported(rt: HostRuntime) -> Result<(), Fail> {
             Case::writes("check", input, report).holds(rt.alloc())?,
             "row {row}"
         );
+        assert!(rt; reports(rt.alloc(), input, report)?, "kept, row {row}");
     }
     let in_pieces_of_one = Case {
         piece: 1,
@@ -224,6 +225,7 @@ fn sequences_are_spelled_canonically(rt: HostRuntime) -> Result<(), Fail> {
             Case::writes("canon", input, spelling).holds(rt.alloc())?,
             "row {row}"
         );
+        assert!(rt; encodes(rt.alloc(), input, spelling)?, "kept, row {row}");
     }
     let refused = Case::refuses("canon", &[HEADER, OPUS, ELEMENT, MIX], b"refused 8 13\n");
     assert!(rt; refused.holds(rt.alloc())?);

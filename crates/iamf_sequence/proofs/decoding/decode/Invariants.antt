@@ -1,14 +1,14 @@
 use Rattle.std.proofs.Common.{length, List, ◌-◌, ◌≤◌}
 use Rattle.spec_sequence.specs.Reading.{Entry}
 use Rattle.iamf_sequence.specs.RulesView.{number_of}
-use Rattle.iamf_sequence.specs.SequenceView.{IsWalked}
+use Rattle.iamf_sequence.specs.DraftView.{IsDraft}
 use Rattle.iamf_sequence.proofs.decoding.decode.Given as goal
 
 abbrev pub invariant-loop-at : goal.invariant-loop-at
 invariant-loop-at l = record {
-  number : number_of l.draft.rules ≤ l.at;
+  number : number_of l.draft.reader.rules ≤ l.at;
   within : l.at ≤ length l.buffer;
-  walked : (es : List Entry) × IsWalked l.buffer l.at l.draft l.obus.items es;
+  stands : (es : List Entry) × IsDraft l.buffer l.at l.draft es;
 }
 
 abbrev pub decreases-loop-at : goal.decreases-loop-at

@@ -5,8 +5,9 @@ use Rattle.spec_sequence.specs.Parts.{UnitValue}
 use Rattle.iamf_sequence.specs.declared.unit.Unit.{Unit as Temporal}
 use Rattle.iamf_sequence.specs.UnitView.{IsUnit}
 use Rattle.iamf_sequence.specs.SortedUnits.{kept_of}
-use Rattle.iamf_sequence.proofs.Finishing.{same_length, each_unit, sum_last, sum_small, take_whole}
+use Rattle.iamf_sequence.proofs.Finishing.{each_unit, sum_last, sum_small, take_whole}
 use Rattle.iamf_sequence.proofs.decoding.kept_by.Goals as goal
+use Rattle.iamf_sequence.proofs.SequenceParts.{same_length}
 
 pub loop-unit-preserved : goal.loop-unit-preserved
 loop-unit-preserved c = λ vs are few.

@@ -1,4 +1,4 @@
-use Rattle.std.proofs.Common.{List, map, refl, sym, subst}
+use Rattle.std.proofs.Common.{List, map, sym, subst}
 use Rattle.spec_sequence.specs.Role.{element_role}
 use Rattle.obu_descriptors.specs.declared.audio_element.AudioElement.{AudioElement}
 use Rattle.obu_descriptors.specs.ElementView.{view_element}
@@ -13,8 +13,8 @@ use Rattle.iamf_sequence.proofs.summing.summary.Goals as goal
 pub returns : goal.returns
 returns c = λ l is.
     let parts = c.sequence.inside.parts in
-    sums_up parts l c.in_ok-totals.totals _ (subst (λ (p : Parts). IsSequence p l) (sym c.sequence.view_is) is) refl refl c.codec_line.ensures
+    sums_up parts l c.in_ok-totals.totals _ (subst (λ (p : Parts). IsSequence p l) (sym c.sequence.view_is) is) c.profile_line.ensures c.codec_line.ensures
     (subst (λ (xs : List AudioElement). AreTotals c.in_ok-totals.totals (map element_role (map view_element xs))) c.as_slice.ensures.value c.in_ok-totals.ensures)
     (subst (λ (xs : List AudioElement). AreElementLines c.in_ok-elements.elements.items (map view_element xs)) c.as_slice-2.ensures.value c.in_ok-elements.ensures)
     (λ r knows. subst (λ (xs : List MixPresentation). AreMixLines r c.in_ok-mixes.mixes.items (map view_mix xs)) c.as_slice-3.ensures.value (c.in_ok-mixes.ensures r knows))
-    (c.unit_count.ensures l is) (c.kept.ensures l is)
+    (c.unit_count.ensures.counts l is) (c.kept.ensures l is)

@@ -1,0 +1,36 @@
+-- The roles of OBUs that stand one after the other.
+use Rattle.std.proofs.Common.{◌≡◌, ℕ, Bool, true, false, eqb, List, [], ◌∷◌, ◌++◌, refl, ap}
+use Rattle.std.specs.Prelude.{if◌then◌else◌}
+use Rattle.std.proofs.lemmas.List.{map-append}
+use Rattle.spec_sequence.specs.Value.{ObuValue}
+use Rattle.spec_sequence.specs.Role.{Role, Ignored, Delimiter, role_of_nothing, role}
+use Rattle.spec_sequence.specs.Parts.{roles_of}
+use Rattle.spec_sequence.specs.Reading.{Entry, values_of, roles}
+
+pub roles-append : (past es : List Entry) → roles (past ++ es) ≡ roles past ++ roles es
+roles-append past es = map-append (λ (e : Entry). role e.value) past es
+
+pub roles_more : (past : List Entry) (e : Entry) → roles (past ++ e ∷ []) ≡ roles past ++ role e.value ∷ []
+roles_more past e = roles-append past (e ∷ [])
+
+pub values_more : (past : List Entry) (e : Entry) → values_of (past ++ e ∷ []) ≡ values_of past ++ e.value ∷ []
+values_more past e = map-append (λ (x : Entry). x.value) past (e ∷ [])
+
+pub roles_of_more : (s : List ObuValue) (o : ObuValue) → roles_of (s ++ o ∷ []) ≡ roles_of s ++ role o ∷ []
+roles_of_more s o = map-append role s (o ∷ [])
+
+pub roles_of_values : (past : List Entry) → roles_of (values_of past) ≡ roles past
+roles_of_values [] = refl
+roles_of_values (e ∷ es) = ap (λ (l : List Role). role e.value ∷ l) (roles_of_values es)
+
+-- ---- one OBU
+
+pub redundant_role : (o : ObuValue) → o.head.redundant ≡ true → role o ≡ Ignored
+redundant_role o redundant = rw redundant refl
+
+-- an OBU of nothing is a delimiter, or it counts for nothing
+pub nothing_of : {X : Type 0} (part : Role → List X) → part Ignored ≡ [] → part Delimiter ≡ [] → (obu_type : ℕ) → part (role_of_nothing obu_type) ≡ []
+nothing_of part ignored delimiter obu_type = one (eqb obu_type 4) where
+  one : (b : Bool) → part (if b then Delimiter else Ignored) ≡ []
+  one true = delimiter
+  one false = ignored

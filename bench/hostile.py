@@ -8,12 +8,10 @@ It ends with 1 where a run fails or its answer is wrong, and with 0 else, whatev
 """
 
 import os
-import sys
-import tempfile
 from collections import namedtuple
 
 import streams
-from run import PROGRAM, Fails, best_of, head, met, row
+from run import PROGRAM, best_of, head, met, row, run_script
 from sequences import expect_accepted
 
 GROWTH_LIMIT = 2.5
@@ -44,11 +42,11 @@ def measure(folder, case, number):
             Cost(writing, (canon_peak - 2 * length) / stream.obus))
 
 
-def report(folder, scale):
+def report(folder, quick):
     head("command", "many", "number", "s", "twice as many, s", "growth", f"below {GROWTH_LIMIT}",
          "bytes an OBU", "twice as many", f"at most {MEMORY_LIMIT}")
     for case in CASES:
-        number = case.number // scale
+        number = case.number // QUICK if quick else case.number
         costs = measure(folder, case, number), measure(folder, case, 2 * number)
         for command, once, twice in zip(("check", "canon"), *costs):
             growth = twice.seconds / once.seconds
@@ -57,18 +55,5 @@ def report(folder, scale):
                 met(max(once.above, twice.above) <= MEMORY_LIMIT))
 
 
-def main():
-    quick = sys.argv[1:] == ["--quick"]
-    if sys.argv[1:] and not quick:
-        sys.exit("usage: bench/hostile.py [--quick]")
-    if not os.access(PROGRAM, os.X_OK):
-        sys.exit(f"bench/hostile.py: no program at {PROGRAM}: run ./iamf_tool once, or set IAMF_TOOL")
-    with tempfile.TemporaryDirectory() as folder:
-        try:
-            report(folder, QUICK if quick else 1)
-        except Fails as fault:
-            sys.exit(f"bench/hostile.py: {fault}")
-
-
 if __name__ == "__main__":
-    main()
+    run_script("bench/hostile.py", report)

@@ -171,24 +171,29 @@ def report_instructions(folder, program, loop, sizes):
         os.remove(stream)
 
 
-def main():
+def run_script(name, report):
+    """Calls a script's report with a folder for temporary files, and whether `--quick`, its one option, was given."""
     quick = sys.argv[1:] == ["--quick"]
     if sys.argv[1:] and not quick:
-        sys.exit("usage: bench/run.py [--quick]")
+        sys.exit(f"usage: {name} [--quick]")
     if not os.access(PROGRAM, os.X_OK):
-        sys.exit(f"bench/run.py: no program at {PROGRAM}: run ./iamf_tool once, or set IAMF_TOOL")
+        sys.exit(f"{name}: no program at {PROGRAM}: run ./iamf_tool once, or set IAMF_TOOL")
+    with tempfile.TemporaryDirectory() as folder:
+        try:
+            report(folder, quick)
+        except Fails as fault:
+            sys.exit(f"{name}: {fault}")
+
+
+def report(folder, quick):
     sizes = [5, 50] if quick else [50, 500]
     program = [PROGRAM, "list"]
-    with tempfile.TemporaryDirectory() as folder:
-        loop = compile_loop(folder, "list")
-        printf_loop = compile_loop(folder, "list_printf", "-DWITH_PRINTF")
-        try:
-            report_streams(folder, program, loop, sizes)
-            report_short(folder, program, printf_loop, loop, 2 if quick else 20)
-            report_instructions(folder, program, loop, sizes)
-        except Fails as fault:
-            sys.exit(f"bench/run.py: {fault}")
+    loop = compile_loop(folder, "list")
+    printf_loop = compile_loop(folder, "list_printf", "-DWITH_PRINTF")
+    report_streams(folder, program, loop, sizes)
+    report_short(folder, program, printf_loop, loop, 2 if quick else 20)
+    report_instructions(folder, program, loop, sizes)
 
 
 if __name__ == "__main__":
-    main()
+    run_script("bench/run.py", report)

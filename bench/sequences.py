@@ -8,11 +8,9 @@ It ends with 1 where a run fails or its answer is wrong, and with 0 else, whatev
 """
 
 import os
-import sys
-import tempfile
 
 import streams
-from run import MB, MIB, PROGRAM, Fails, best_of, head, met, row, run_once
+from run import MB, MIB, PROGRAM, Fails, best_of, head, met, row, run_once, run_script
 
 CHECK_LIMIT = 1.5
 CANON_LIMIT = 3
@@ -50,7 +48,8 @@ def expect_accepted(folder, path, stream):
     os.remove(written)
 
 
-def report(folder, size):
+def report(folder, quick):
+    size = 5 if quick else 500
     path = os.path.join(folder, "layered.iamf")
     stream = streams.layered(path, size * MB)
     expect_accepted(folder, path, stream)
@@ -64,18 +63,5 @@ def report(folder, size):
         met(writing / listing <= CANON_LIMIT), f"{(check_peak - length) / MIB:.1f}", f"{(canon_peak - 2 * length) / MIB:.1f}")
 
 
-def main():
-    quick = sys.argv[1:] == ["--quick"]
-    if sys.argv[1:] and not quick:
-        sys.exit("usage: bench/sequences.py [--quick]")
-    if not os.access(PROGRAM, os.X_OK):
-        sys.exit(f"bench/sequences.py: no program at {PROGRAM}: run ./iamf_tool once, or set IAMF_TOOL")
-    with tempfile.TemporaryDirectory() as folder:
-        try:
-            report(folder, 5 if quick else 500)
-        except Fails as fault:
-            sys.exit(f"bench/sequences.py: {fault}")
-
-
 if __name__ == "__main__":
-    main()
+    run_script("bench/sequences.py", report)

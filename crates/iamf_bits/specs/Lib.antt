@@ -1,3 +1,5 @@
 pub mod Front
 pub mod View
 pub mod Written
+pub mod Rows
+pub mod Lending

@@ -3,10 +3,12 @@
 
 mod front;
 mod out;
+mod planes;
 #[cfg(test)]
 mod tests;
 mod view;
 
 pub use out::Out;
+pub use planes::Planes;
 pub use spec_bits::FieldFault;
 pub use view::View;

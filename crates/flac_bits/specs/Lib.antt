@@ -1,0 +1,4 @@
+pub mod Ones
+pub mod Windows
+pub mod Places
+pub mod Residuals

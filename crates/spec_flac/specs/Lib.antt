@@ -1,0 +1,7 @@
+pub mod Faults
+pub mod Header
+pub mod Residual
+pub mod Subframe
+pub mod Frame
+pub mod Equations
+pub mod FrameLaws

@@ -1,10 +1,11 @@
-//! The table of layouts, steps that are refused, and what three layers transmit.
+//! The table of layouts, steps that are refused, what three layers transmit, and the tables of gains, modes and weights.
 
 ghost use Rattle.std.specs.Prelude.{◌≡◌, ◌+◌, length, IfSome};
 ghost use Rattle.spec_layouts.specs.Transmitted.{pairs_of, singles_of};
 
 use crate::{
-    Channel, Layout, Transmitted, channel_at, channel_count, channel_mask, layout, new_channels,
+    Channel, DemixMode, Layout, Transmitted, channel_at, channel_count, channel_mask, demix_mode,
+    gain, layout, new_channels, weight,
 };
 use Channel::{C, L, Lfe, Lrs, Ls, Lss, Ltb, Ltf, M, R, Rrs, Rs, Rss, Rtb, Rtf};
 use std::process::Abort;
@@ -126,4 +127,64 @@ fn a_step_down_a_step_of_nothing_and_a_step_with_binaural_are_refused(rt: HostRu
     assert!(rt; new_channels(Some(Layout::Stereo), Layout::Stereo).is_none());
     assert!(rt; new_channels(Some(Layout::Binaural), Layout::Stereo).is_none());
     assert!(rt; new_channels(Some(Layout::Stereo), Layout::Binaural).is_none());
+}
+
+#[test]
+fn the_gains_of_some_decibels(rt: HostRuntime) {
+    for (quarters, want) in [
+        (0, 1_000_000_000_000),
+        (-1536, 501_187_233_627),
+        (1536, 1_995_262_314_968),
+        (8192, 39_810_717_055_340),
+    ] {
+        assert_eq!(rt; gain(quarters), want);
+    }
+}
+
+#[test]
+fn the_gains_of_whole_decibels_rise(rt: HostRuntime) {
+    let mut before = 0;
+    for decibels in [
+        0, 256, 512, 768, 1024, 1280, 1536, 1792, 2048, 2304, 2560, 2816, 3072, 3328, 3584, 3840,
+        4096, 4352, 4608, 4864,
+    ] {
+        let now = gain(decibels);
+        assert!(rt; before < now);
+        before = now;
+    }
+}
+
+#[test]
+fn the_modes_3_and_7_are_reserved(rt: HostRuntime) {
+    let rows = [
+        (1000, 1000, 707, 707),
+        (707, 707, 707, 707),
+        (1000, 866, 866, 866),
+    ];
+    for (row, (alpha, beta, gamma, delta)) in rows.iter().enumerate() {
+        for (code, step) in [(row, -1), (row + 4, 1)] {
+            let want = DemixMode {
+                alpha: *alpha,
+                beta: *beta,
+                gamma: *gamma,
+                delta: *delta,
+                step,
+            };
+            let code = code as u8;
+            assert!(rt; code < 8);
+            assert_eq!(rt; demix_mode(code), Some(want));
+        }
+    }
+    assert_eq!(rt; demix_mode(3), None);
+    assert_eq!(rt; demix_mode(7), None);
+}
+
+#[test]
+fn an_index_above_10_counts_as_10(rt: HostRuntime) {
+    let weights = [0, 179, 391, 658, 1038, 2500, 3962, 4342, 4609, 4821, 5000];
+    for (index, want) in weights.iter().enumerate() {
+        assert_eq!(rt; weight(index as u8), *want);
+    }
+    assert_eq!(rt; weight(11), 5000);
+    assert_eq!(rt; weight(255), 5000);
 }

@@ -1,0 +1,5 @@
+pub mod Floors
+pub mod StepLemmas
+pub mod WalkLemmas
+pub mod Rows
+pub mod KeptLayers

@@ -1,0 +1,15 @@
+//! Demixing, gains and rounding in fixed point, in units of 1/2^28 (IAMF 1.0.0, "Scalable Channel Layout Config Syntax and
+//! Semantics", "Demixing Info Parameter Data" and "Mix Gain Parameter Data"). Nothing here takes memory.
+#![tactic(auto)]
+
+mod kernel;
+mod output;
+mod samples;
+mod steps;
+#[cfg(test)]
+mod tests;
+mod walk;
+
+pub use demix_channels::DemixParams;
+pub use kernel::Kernel;
+pub use output::{apply_gain, round_clip};

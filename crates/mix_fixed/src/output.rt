@@ -1,0 +1,60 @@
+//! Gains and the last rounding of values in units of 1/2^28.
+
+ghost use Rattle.std.specs.Prelude.{◌≡◌, ◌-◌, ◌^◌, ◌<◌, ◌≤◌, pos, ◌*ℤ◌, unsigned_abs};
+ghost use Rattle.spec_demix.specs.Floor.{floor_of};
+ghost use Rattle.spec_demix.specs.Rounding.{clipped, rounded};
+
+/// The value times a gain over 10^12, rounded down.
+///
+/// The value must be below 2^78 in absolute value, and the gain at most that of 32 dB, 39810717055340.
+pub fn apply_gain(value: i128, gain: u64) -> i128
+    requires value { unsigned_abs value < 2 ^ 78 }
+    requires gain { gain ≤ 39810717055340 }
+    ensures { result ≡ floor_of (value *ℤ pos gain) 1000000000000 }
+{
+    (value * gain as i128).div_euclid(1_000_000_000_000)
+}
+
+/// How many samples of a depth are not negative.
+fn half_range(depth: u8) -> i128
+    requires some { 1 ≤ depth }
+    requires most { depth ≤ 32 }
+    ensures value { result ≡ pos (2 ^ (depth - 1)) }
+    ensures small { 2 ^ (depth - 1) ≤ 2 ^ 31 }
+    ensures some { 1 ≤ 2 ^ (depth - 1) }
+{
+    1 << (depth - 1)
+}
+
+/// The nearest whole number, halves upwards.
+fn nearest(value: i128) -> i128
+    requires { unsigned_abs value < 2 ^ 126 }
+    ensures { result ≡ rounded value }
+{
+    (value + 0x800_0000).div_euclid(0x1000_0000)
+}
+
+/// The nearest sample of a depth.
+fn clip(whole: i128, depth: u8) -> i32
+    requires some { 1 ≤ depth }
+    requires most { depth ≤ 32 }
+    ensures { result ≡ clipped depth whole }
+{
+    let half = half_range(depth);
+    let low = -half;
+    let high = half - 1;
+    whole.clamp(low, high) as i32
+}
+
+/// The whole number nearest to a value in units of 1/2^28, halves upwards, held to the samples of a depth: from -2^(depth-1)
+/// to 2^(depth-1) - 1.
+///
+/// The value must be below 2^126 in absolute value, and the depth from 1 to 32.
+pub fn round_clip(value: i128, depth: u8) -> i32
+    requires value { unsigned_abs value < 2 ^ 126 }
+    requires some { 1 ≤ depth }
+    requires most { depth ≤ 32 }
+    ensures { result ≡ clipped depth (rounded value) }
+{
+    clip(nearest(value), depth)
+}

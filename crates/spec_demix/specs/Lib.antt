@@ -1,0 +1,14 @@
+pub mod Floor
+pub mod Kinds
+pub mod Downmix
+pub mod Values
+pub mod OutputGains
+pub mod Fits
+pub mod Sent
+pub mod FixedWalk
+pub mod ExactWalk
+pub mod Sizes
+pub mod Rounding
+pub mod Elements
+pub mod Scenes
+pub mod Laws

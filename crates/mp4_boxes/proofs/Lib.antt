@@ -1,0 +1,3 @@
+pub mod BigEndianWords
+pub mod Counted
+pub mod Standing

@@ -1,0 +1,5 @@
+pub mod Cuts
+pub mod Pieces
+pub mod LebBytes
+pub mod UnitCounts
+pub mod Boxes

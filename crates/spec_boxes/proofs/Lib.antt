@@ -1,0 +1,14 @@
+pub mod Tiles
+pub mod Rows
+pub mod Steps
+pub mod Ruled
+pub mod RuledTables
+pub mod RuledTrack
+pub mod Answer
+pub mod ObuLists
+pub mod Entries
+pub mod Samples
+pub mod Counts
+pub mod TilingLaws
+pub mod ChunkLaws
+pub mod WholeLaws

@@ -1,0 +1,17 @@
+pub mod Bytes
+pub mod Boxes
+pub mod Tiling
+pub mod Parts
+pub mod Paths
+pub mod Tables
+pub mod TablesAt
+pub mod Spans
+pub mod Chunks
+pub mod Edits
+pub mod Groups
+pub mod ObuLists
+pub mod Configuration
+pub mod Tracks
+pub mod Rules
+pub mod Code
+pub mod Laws

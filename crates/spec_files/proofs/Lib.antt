@@ -1,0 +1,10 @@
+pub mod Placed
+pub mod Walked
+pub mod Tabled
+pub mod Laid
+pub mod Configured
+pub mod Measured
+pub mod Delimiter
+pub mod BodyKinds
+pub mod Bodies
+pub mod FileLaw

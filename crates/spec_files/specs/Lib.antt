@@ -1,0 +1,4 @@
+pub mod Pieces
+pub mod MovieFile
+pub mod Body
+pub mod Laws

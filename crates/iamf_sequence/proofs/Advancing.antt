@@ -1,8 +1,9 @@
 -- One more OBU of the bytes, or the first fault.
-use Rattle.std.proofs.Common.{◌≡◌, ℕ, ◌-◌, ◌<◌, ◌≤◌, List, [], ◌∷◌, ◌++◌, take, drop, length, refl, sym, ap, subst, ◌∙◌, arith, append_assoc, append-nil, length-drop}
-use Rattle.std.specs.Prelude.{Option, Some, Result, Ok, Err, IfErr}
+use Rattle.std.proofs.Common.{◌≡◌, ℕ, ◌^◌, ◌-◌, ◌<◌, ◌≤◌, List, [], ◌∷◌, ◌++◌, take, drop, length, refl, sym, ap, subst, ◌∙◌, arith, append_assoc, append-nil, length-drop}
+use Rattle.std.specs.Prelude.{Option, Some, map}
 use Rattle.std.proofs.lemmas.List.{map-append, take-append-drop, length-take-le}
-use Rattle.std.proofs.Math.Seq.{take-add, drop-length}
+use Rattle.std.proofs.Math.Seq.{take-add, take-length, drop-length}
+use Rattle.spec_bits.specs.Bits.{AreBytes}
 use Rattle.spec_obu.specs.declared.HeaderFault.{HeaderFault}
 use Rattle.spec_obu.specs.Header.{Head, Header}
 use Rattle.spec_obu.specs.Faults as header
@@ -10,6 +11,7 @@ use Rattle.spec_sequence.specs.declared.fault.Fault.{Fault}
 use Rattle.spec_sequence.specs.declared.fault.Fault.TheVariants as fault
 use Rattle.spec_sequence.specs.Value.{Spells}
 use Rattle.spec_sequence.specs.Role.{Role, role}
+use Rattle.spec_sequence.specs.Units.{unit_count}
 use Rattle.spec_sequence.specs.Rules.{end_fault}
 use Rattle.spec_sequence.specs.Reading.{Entry, values_of, roles, context_after, IsAdmissible, AdmittedAfter, Admitted, FailsAt, AtEnd, OfHeader, OfObu, Refuses}
 use Rattle.spec_sequence.proofs.FixedContext as context
@@ -19,16 +21,13 @@ use Rattle.iamf_admission.specs.declared.admission.AdmitError.{AdmitError}
 use Rattle.iamf_admission.specs.declared.admission.AdmitError.TheVariants as admit
 use Rattle.obu_header.specs.declared.view.ObuView.{ObuView}
 use Rattle.obu_header.specs.View.{head_of}
-use Rattle.iamf_sequence.specs.declared.kept.Kept.{Kept}
+use Rattle.iamf_sequence.specs.declared.draft.Draft.{Draft}
 use Rattle.iamf_sequence.specs.declared.reader.Reader.{Reader}
-use Rattle.iamf_sequence.specs.declared.reader.Said.{Said}
-use Rattle.iamf_sequence.specs.declared.reader.Next.{Next}
+use Rattle.iamf_sequence.specs.declared.reader.Admitted.{Admitted as AdmittedObu}
 use Rattle.iamf_sequence.specs.declared.parts.Placed.{Placed}
-use Rattle.iamf_sequence.specs.declared.refusal.DecodeError.{DecodeError}
-use Rattle.iamf_sequence.specs.declared.refusal.DecodeError.TheVariants as errors
-use Rattle.iamf_sequence.specs.Places.{not_taken_at, refused_at, IsRefused}
+use Rattle.iamf_sequence.specs.Places.{not_taken_at, refused_at, IsRefused, Tiles}
 use Rattle.iamf_sequence.specs.KeptView.{Keeps}
-use Rattle.iamf_sequence.specs.ReaderView.{number_after, number_said, IsReader, IsTaken, HasRead, IsNext, Fails, Finishes}
+use Rattle.iamf_sequence.specs.ReaderView.{number_after, IsReader, IsTaken, HasRead, IsNext, IsOneMore, Fails}
 use Rattle.iamf_sequence.specs.SequenceView.{AreViews, numbers_after, views_of}
 use Rattle.iamf_sequence.specs.DraftView.{IsPlaced}
 use Rattle.iamf_sequence.proofs.Tiling.{tiles_more}
@@ -42,7 +41,7 @@ keeps_after past bytes (e ∷ es) k h = subst context.Keeps (append_assoc past (
 pub keeps_admitted : (bytes : List ℕ) (es : List Entry) → Admitted bytes es → context.Keeps es
 keeps_admitted bytes es h = keeps_after [] bytes es keeps-nil h
 
-admitted_last : (past : List Entry) (bytes piece : List ℕ) (es : List Entry) (e : Entry) → AdmittedAfter past bytes es → Spells (context_after (past ++ es)) e.value e.payload piece → IsAdmissible (past ++ es) e
+pub admitted_last : (past : List Entry) (bytes piece : List ℕ) (es : List Entry) (e : Entry) → AdmittedAfter past bytes es → Spells (context_after (past ++ es)) e.value e.payload piece → IsAdmissible (past ++ es) e
     → AdmittedAfter past (bytes ++ piece) (es ++ e ∷ [])
 admitted_last past bytes piece [] e h s a =
     let same : past ++ [] ≡ past = append-nil past in
@@ -70,9 +69,9 @@ numbers_last l (x ∷ xs) o =
 
 -- ---- one more OBU
 
-pub read_more : (bytes : List ℕ) (at : ℕ) (old new : Reader) (view : ObuView) (said : Option Said) (l : List Entry) (e : Entry) → HasRead bytes at old l → at < view.end
-    → Header (head_of view.head) view.payload.now (take (view.end - at) (drop at bytes)) → IsTaken l view said e → IsReader new (l ++ e ∷ []) → HasRead bytes view.end new (l ++ e ∷ [])
-read_more bytes at old new view said l e is onward header taken reader =
+pub read_more : (bytes : List ℕ) (at : ℕ) (old new : Reader) (view : ObuView) (obu : AdmittedObu) (l : List Entry) (e : Entry) → HasRead bytes at old l → at < view.end
+    → Header (head_of view.head) view.payload.now (take (view.end - at) (drop at bytes)) → IsTaken l view obu e → IsReader new (l ++ e ∷ []) → HasRead bytes view.end new (l ++ e ∷ [])
+read_more bytes at old new view obu l e is onward header taken reader =
     let piece : List ℕ = take (view.end - at) (drop at bytes) in
     let spelled : Header e.value.head e.payload piece =
     subst (λ (h : Head). Header h e.payload piece) (sym taken.head) (subst (λ (b : List ℕ). Header (head_of view.head) b piece) (sym taken.payload) header) in
@@ -82,17 +81,30 @@ read_more bytes at old new view said l e is onward header taken reader =
       reader = reader;
     }
 
-pub placed_more : (bytes : List ℕ) (at : ℕ) (old new : Kept) (obus : List Placed) (p : Placed) (next : Next) (l : List Entry) (e : Entry) → IsPlaced bytes at old obus l → IsNext bytes at next l e → p.view ≡ next.view
-    → p.unit ≡ number_said next.said → Keeps new (values_of (l ++ e ∷ [])) → IsPlaced bytes next.view.end new (obus ++ p ∷ []) (l ++ e ∷ [])
-placed_more bytes at old new obus p next l e is then view unit kept = subst (λ (v : ObuView). IsPlaced bytes v.end new (obus ++ p ∷ []) (l ++ e ∷ [])) view (record {
+pub one_more : (bytes : List ℕ) (at : ℕ) (old new : Reader) (view : ObuView) (obu : AdmittedObu) (l : List Entry) (e : Entry) → AreBytes bytes → HasRead bytes at old l → view.at ≡ at → at < view.end
+    → Header (head_of view.head) view.payload.now (take (view.end - at) (drop at bytes)) → IsTaken l view obu e → IsReader new (l ++ e ∷ []) → unit_count (roles l) ≤ 2 ^ 41 → IsOneMore bytes at new view obu l e
+one_more bytes at old new view obu l e are is place onward header taken reader few = record {
+  are = are;
+  before = is.admitted;
+  next = record { place = place; onward = onward; header = header; taken = taken };
+  after = read_more bytes at old new view obu l e is onward header taken reader;
+  few = few;
+}
+
+-- the OBU as it is kept
+abbrev pub placed : ObuView → AdmittedObu → Placed
+placed view obu = record { view = view; unit = obu.unit }
+
+pub placed_more : (bytes : List ℕ) (at : ℕ) (old new : Draft) (view : ObuView) (obu : AdmittedObu) (l : List Entry) (e : Entry) → IsPlaced old bytes at l → IsNext bytes at view obu l e
+    → new.obus.items ≡ old.obus.items ++ placed view obu ∷ [] → Keeps new.kept (values_of (l ++ e ∷ [])) → IsPlaced new bytes view.end (l ++ e ∷ [])
+placed_more bytes at old new view obu l e is then more kept = record {
   kept = kept;
-  views = subst (λ (vs : List ObuView). AreViews vs (l ++ e ∷ [])) (sym (map-append (λ o. o.view) obus (p ∷ [])))
-      (views_last (views_of obus) p.view l e is.views (ap (λ (v : ObuView). head_of v.head) view ∙ sym then.taken.head) (ap (λ (v : ObuView). v.payload.now) view ∙ sym then.taken.payload));
-  tiles = tiles_more bytes 0 at obus p is.tiles (ap (λ (v : ObuView). v.at) view ∙ then.place) (subst (λ (v : ObuView). at < v.end) (sym view) then.onward)
-      (subst (λ (v : ObuView). Header (head_of v.head) v.payload.now (take (v.end - at) (drop at bytes))) (sym view) then.header);
-  numbers = map-append (λ o. o.unit) obus (p ∷ []) ∙ ap (λ (ns : List (Option ℕ)). ns ++ p.unit ∷ []) is.numbers ∙ ap (λ (n : Option ℕ). numbers_after [] (roles l) ++ n ∷ []) (unit ∙ then.taken.unit)
-      ∙ sym (ap (numbers_after []) (roles_more l e) ∙ numbers_last [] (roles l) (role e.value));
-})
+  views = subst (λ (ps : List Placed). AreViews (views_of ps) (l ++ e ∷ [])) (sym more) (subst (λ (vs : List ObuView). AreViews vs (l ++ e ∷ [])) (sym (map-append (λ o. o.view) old.obus.items (placed view obu ∷ [])))
+      (views_last (views_of old.obus.items) view l e is.views (sym then.taken.head) (sym then.taken.payload)));
+  tiles = subst (λ (ps : List Placed). Tiles bytes 0 (views_of ps) view.end) (sym more) (tiles_more bytes 0 at old.obus.items (placed view obu) is.tiles then.place then.onward then.header);
+  numbers = ap (map (λ (o : Placed). o.unit)) more ∙ map-append (λ o. o.unit) old.obus.items (placed view obu ∷ []) ∙ ap (λ (ns : List (Option ℕ)). ns ++ obu.unit ∷ []) is.numbers
+      ∙ ap (λ (n : Option ℕ). numbers_after [] (roles l) ++ n ∷ []) then.taken.unit ∙ sym (ap (numbers_after []) (roles_more l e) ∙ numbers_last [] (roles l) (role e.value));
+}
 
 -- ---- the first fault
 
@@ -120,13 +132,5 @@ obu_refused bytes at l view (admit.Fault f) before admitted header fails =
     (OfObu (head_of view.head) view.payload.now (take (view.end - at) (drop at bytes)) (drop (view.end - at) (drop at bytes)) (sym (take-append-drop (view.end - at) (drop at bytes))) header fails)
 obu_refused bytes at l view (admit.Memory e) before admitted header fails = tt
 
-pub end_refused : (bytes : List ℕ) (at : ℕ) (l : List Entry) (f : Fault) → at ≡ length bytes → Admitted (take (length bytes) bytes) l → end_fault (roles l) ≡ Some f → IsRefused bytes (refused_at at f)
-end_refused bytes at l f is admitted fails = subst (λ (n : ℕ). Refuses bytes n f) (sym is) (refuses bytes (length bytes) l f (omega arith) admitted (AtEnd (drop-length bytes) fails))
-
-pub finish_refused : {X : Type 0} (bytes : List ℕ) (l : List Entry) (is : X → Type 0) (e : DecodeError) → Admitted (take (length bytes) bytes) l → Finishes bytes l is (Err e) → IsRefused bytes e
-finish_refused bytes l is (errors.Refused r) admitted h = end_refused bytes r.at l r.fault h.0 admitted h.1
-finish_refused bytes l is (errors.Memory e) admitted h = tt
-
-pub finish_refuses : {X : Type 0} (bytes : List ℕ) (l : List Entry) (is : X → Type 0) (r : Result X DecodeError) → Admitted (take (length bytes) bytes) l → Finishes bytes l is r → IfErr r (λ e. IsRefused bytes e)
-finish_refuses bytes l is (Ok x) admitted h = tt
-finish_refuses bytes l is (Err e) admitted h = finish_refused bytes l is e admitted h
+pub end_refused : (bytes : List ℕ) (l : List Entry) (f : Fault) → Admitted bytes l → end_fault (roles l) ≡ Some f → IsRefused bytes (refused_at (length bytes) f)
+end_refused bytes l f admitted fails = refuses bytes (length bytes) l f (omega arith) (subst (λ (b : List ℕ). Admitted b l) (sym (take-length bytes)) admitted) (AtEnd (drop-length bytes) fails)

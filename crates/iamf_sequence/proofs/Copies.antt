@@ -79,7 +79,7 @@ pub unlike : (past : List Entry) (h : Head) (payload : List ℕ) → is_copy h �
 unlike past h payload copy none = early_copy past h payload copy ∙ rw none refl
 
 pub copied : (r : Reader) (past : List Entry) (view : ObuView) (piece : List ℕ) → IsReader r past → context.Keeps past → Header (head_of view.head) view.payload.now piece → is_copy (head_of view.head) ≡ true
-    → is_repeated past (head_of view.head) view.payload.now ≡ true → (e : Entry) × IsTaken past view None e × IsReader r (past ++ e ∷ [])
+    → is_repeated past (head_of view.head) view.payload.now ≡ true → (e : Entry) × IsTaken past view (record { content = None; unit = None }) e × IsReader r (past ++ e ∷ [])
 copied r past view piece is keeps header copy same =
     let h : Head = head_of view.head in
     let redundant : h.redundant ≡ true = (and_parts h.redundant (not (is_reserved h.kind)) copy).0 in

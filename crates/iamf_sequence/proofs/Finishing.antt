@@ -15,7 +15,7 @@ use Rattle.spec_sequence.specs.Descriptors.{profiles, codecs, elements, mixes, f
 use Rattle.spec_sequence.specs.Units.{is_none_of, in_unit, open_unit, unit_count, trims_in}
 use Rattle.spec_sequence.specs.Rules.{when, lacks_descriptors, has_short_unit, end_fault}
 use Rattle.spec_sequence.specs.Value.{ObuValue}
-use Rattle.spec_sequence.specs.Parts.{FrameValue, roles_of, sequence_headers, codec_configs, UnitValue, unit_value, units_up_to, temporal_units}
+use Rattle.spec_sequence.specs.Parts.{FrameValue, roles_of, header_in, codec_in, element_in, mix_in, sequence_headers, codec_configs, audio_elements, mix_presentations, UnitValue, unit_value, units_up_to, temporal_units}
 use Rattle.spec_sequence.specs.Report.{kept_up_to, kept_by, kept}
 use Rattle.spec_sequence.specs.Reading.{Entry, values_of, roles, Admitted}
 use Rattle.spec_sequence.proofs.Roles.{roles_of_values}
@@ -29,7 +29,20 @@ use Rattle.iamf_sequence.specs.UnitView.{view_frame, first_trim, frame_with, vie
 use Rattle.iamf_sequence.specs.SortedUnits.{SortsTo, kept_of}
 use Rattle.iamf_sequence.specs.declared.rules.Rules.{Rules}
 use Rattle.iamf_sequence.specs.RulesView.{StandsFor, number_of}
+use Rattle.iamf_sequence.specs.SequenceValue.{IsRead}
 use Rattle.iamf_sequence.proofs.Parting.{length-temporal_units}
+use Rattle.iamf_sequence.proofs.RolesAdmitted.{roles_admitted}
+use Rattle.iamf_sequence.specs.Tails.{with_tails}
+use Rattle.iamf_sequence.specs.KeptView.{element_and_tail, mix_and_tail}
+use Rattle.iamf_sequence.proofs.WithTails.{headers_are}
+use Rattle.iamf_sequence.proofs.WithTails as tails
+use Rattle.obu_descriptors.specs.ElementView.{view_element}
+use Rattle.obu_descriptors.specs.declared.audio_element.AudioElement.{AudioElement}
+use Rattle.obu_mix.specs.MixView.{view_mix}
+use Rattle.obu_mix.specs.declared.mix_presentation.MixPresentation.{MixPresentation}
+use Rattle.spec_descriptors.specs.SequenceHeader.{SequenceHeaderFields}
+use Rattle.spec_descriptors.specs.AudioElement.{AudioElementFields}
+use Rattle.spec_descriptors.specs.MixPresentation.{MixPresentationFields}
 use Rattle.iamf_sequence.proofs.Sorted.{unit_apart, are_units}
 use Rattle.iamf_sequence.proofs.Whole.{trims_are}
 
@@ -52,13 +65,35 @@ none_left : {X : Type 0} (xs : List X) → xs ≡ [] → is_none_of xs ≡ false
 none_left [] e h = cc
 none_left (x ∷ xs) e h = cc
 
-pub some_header : (l : List Entry) → IsAdmitted (roles l) → end_fault (roles l) ≡ None → sequence_headers (values_of l) ≡ [] → ⊥
-some_header l admitted whole none =
-    none_left (profiles (roles l)) (ap profiles (sym (roles_of_values l)) ∙ profiles_are (values_of l) ∙ ap (map (λ h. h.primary_profile)) none) (some_parts (roles l) (lacks_none (roles l) admitted whole)).0
+pub some_header : (bytes : List ℕ) (l : List Entry) → IsRead bytes l → sequence_headers (values_of l) ≡ [] → ⊥
+some_header bytes l read none =
+    none_left (profiles (roles l)) (ap profiles (sym (roles_of_values l)) ∙ profiles_are (values_of l) ∙ ap (map (λ h. h.primary_profile)) none)
+    (some_parts (roles l) (lacks_none (roles l) (roles_admitted bytes l read.admitted) read.whole)).0
 
-pub some_codec : (l : List Entry) → IsAdmitted (roles l) → end_fault (roles l) ≡ None → codec_configs (values_of l) ≡ [] → ⊥
-some_codec l admitted whole none =
-    none_left (codecs (roles l)) (ap codecs (sym (roles_of_values l)) ∙ codecs_are (values_of l) ∙ ap (λ (cs : List CodecConfigFields). map role_of_codec cs) none) (some_parts (roles l) (lacks_none (roles l) admitted whole)).1
+pub some_codec : (bytes : List ℕ) (l : List Entry) → IsRead bytes l → codec_configs (values_of l) ≡ [] → ⊥
+some_codec bytes l read none =
+    none_left (codecs (roles l)) (ap codecs (sym (roles_of_values l)) ∙ codecs_are (values_of l) ∙ ap (λ (cs : List CodecConfigFields). map role_of_codec cs) none)
+    (some_parts (roles l) (lacks_none (roles l) (roles_admitted bytes l read.admitted) read.whole)).1
+
+-- the same of descriptors with their tails
+
+pub no_header_left : (bytes : List ℕ) (l : List Entry) → IsRead bytes l → with_tails header_in (values_of l) ≡ [] → ⊥
+no_header_left bytes l read none = some_header bytes l read (sym (headers_are (values_of l)) ∙ ap (map (λ (p : SequenceHeaderFields × List ℕ). p.0)) none)
+
+pub no_codec_left : (bytes : List ℕ) (l : List Entry) → IsRead bytes l → with_tails codec_in (values_of l) ≡ [] → ⊥
+no_codec_left bytes l read none = some_codec bytes l read (sym (tails.codecs_are (values_of l)) ∙ ap (map (λ (p : CodecConfigFields × List ℕ). p.0)) none)
+
+pub elements_without : (xs : List AudioElement) (s : List ObuValue) → map element_and_tail xs ≡ with_tails element_in s → map view_element xs ≡ audio_elements s
+elements_without xs s are = elements_of xs ∙ ap (map (λ (p : AudioElementFields × List ℕ). p.0)) are ∙ tails.elements_are s where
+  elements_of : (ys : List AudioElement) → map view_element ys ≡ map (λ (p : AudioElementFields × List ℕ). p.0) (map element_and_tail ys)
+  elements_of [] = refl
+  elements_of (y ∷ ys) = ap (λ (zs : List AudioElementFields). view_element y ∷ zs) (elements_of ys)
+
+pub mixes_without : (xs : List MixPresentation) (s : List ObuValue) → map mix_and_tail xs ≡ with_tails mix_in s → map view_mix xs ≡ mix_presentations s
+mixes_without xs s are = mixes_of xs ∙ ap (map (λ (p : MixPresentationFields × List ℕ). p.0)) are ∙ tails.mixes_are s where
+  mixes_of : (ys : List MixPresentation) → map view_mix ys ≡ map (λ (p : MixPresentationFields × List ℕ). p.0) (map mix_and_tail ys)
+  mixes_of [] = refl
+  mixes_of (y ∷ ys) = ap (λ (zs : List MixPresentationFields). view_mix y ∷ zs) (mixes_of ys)
 
 -- ---- units
 
@@ -128,6 +163,9 @@ few_units r l is small =
     one : (b : Bool) → unit_count (roles l) ≡ open_unit (roles l) + cond b 0 1 → length (temporal_units (values_of l)) ≡ unit_count (roles l) → length (temporal_units (values_of l)) ≤ 2 ^ 41
     one true counted count = omega (arith, counted, count, is.stands.unit.number, small)
     one false counted count = omega (arith, counted, count, is.stands.unit.number, small)
+
+pub few_begun : (r : Rules) (l : List Entry) → StandsFor r (roles l) → number_of r ≤ 2 ^ 40 → unit_count (roles l) ≤ 2 ^ 41
+few_begun r l is small = subst (λ n. n ≤ 2 ^ 41) (length-temporal_units (values_of l) ∙ ap unit_count (roles_of_values l)) (few_units r l is small)
 
 -- ---- sorting
 

@@ -15,7 +15,7 @@ use Rattle.spec_sequence.specs.Value.{ObuValue}
 use Rattle.spec_sequence.specs.Role.{role}
 use Rattle.spec_sequence.specs.Role as roles
 use Rattle.spec_sequence.specs.Units.{is_data, placed, unit_count}
-use Rattle.spec_sequence.specs.Parts.{of_plain, header_in, codec_in, element_in, mix_in, sequence_headers, codec_configs, audio_elements, mix_presentations, frame_of, block_of, UnitValue, temporal_units}
+use Rattle.spec_sequence.specs.Parts.{of_plain, header_in, codec_in, element_in, mix_in, frame_of, block_of, UnitValue, temporal_units}
 use Rattle.spec_sequence.proofs.Basics.{flat_map-push}
 use Rattle.spec_sequence.proofs.KindsOfTypes.{delimiter_type, reserved_type}
 use Rattle.spec_sequence.proofs.RedundantCopies.{plain_of}
@@ -41,8 +41,10 @@ use Rattle.iamf_sequence.specs.declared.kept.Kept.{Kept}
 use Rattle.iamf_sequence.specs.declared.unit.Unit as temporal
 use Rattle.iamf_sequence.specs.ContentView.{IsElement}
 use Rattle.iamf_sequence.specs.UnitView.{view_trim, view_frame, view_block_value, view_unit, HasTrim, opened, change_last, with_frame, with_block}
-use Rattle.iamf_sequence.specs.KeptView.{AreHeaders, AreCodecs, HasNoLater, Keeps}
+use Rattle.iamf_sequence.specs.Tails.{with_tail, with_tails}
+use Rattle.iamf_sequence.specs.KeptView.{AreHeaders, AreCodecs, element_and_tail, mix_and_tail, HasNoLater, Keeps}
 use Rattle.iamf_sequence.specs.ReaderView.{AddsTo, IsSaid}
+use Rattle.iamf_sequence.proofs.WithTails.{no_header, no_codec}
 use Rattle.iamf_sequence.proofs.Parting.{units-quiet, units-here, with_obu, later-none, later-quiet, later-here}
 
 -- ---- descriptors
@@ -60,13 +62,30 @@ plain_says o c plain says = record { headers = rw (plain, says) refl; codecs = r
 pub copy_says : (o : ObuValue) → o.head.redundant ≡ true → Says o [] [] [] []
 copy_says o copy = record { headers = rw copy refl; codecs = rw copy refl; elements = rw copy refl; mixes = rw copy refl }
 
+-- the same with the tail
+record SaysWithTail (o : ObuValue) (hs : List (SequenceHeaderFields × List ℕ)) (cs : List (CodecConfigFields × List ℕ)) (es : List (AudioElementFields × List ℕ)) (ms : List (MixPresentationFields × List ℕ)) : Type 0 where
+  headers : with_tail header_in o ≡ hs
+  codecs : with_tail codec_in o ≡ cs
+  elements : with_tail element_in o ≡ es
+  mixes : with_tail mix_in o ≡ ms
+
+-- what is said, with this tail
+abbrev ending : {X : Type 0} → List ℕ → List X → List (X × List ℕ)
+ending tail xs = map (λ x. (x, tail)) xs
+
+plain_ends : (o : ObuValue) (c : specs.Content) (tail : List ℕ) → o.head.redundant ≡ false → o.content ≡ c → o.tail ≡ tail → SaysWithTail o (ending tail (header_in c)) (ending tail (codec_in c)) (ending tail (element_in c)) (ending tail (mix_in c))
+plain_ends o c tail plain says ends = record { headers = rw (plain, says, ends) refl; codecs = rw (plain, says, ends) refl; elements = rw (plain, says, ends) refl; mixes = rw (plain, says, ends) refl }
+
+copy_ends : (o : ObuValue) → o.head.redundant ≡ true → SaysWithTail o [] [] [] []
+copy_ends o copy = record { headers = rw copy refl; codecs = rw copy refl; elements = rw copy refl; mixes = rw copy refl }
+
 -- the lists of descriptors with those of the OBU
-record AreKept (k : Kept) (s : List ObuValue) (hs : List SequenceHeaderFields) (cs : List CodecConfigFields) (es : List AudioElementFields) (ms : List MixPresentationFields) : Type 0 where
-  header : AreHeaders k.header (sequence_headers s ++ hs)
-  codec : AreCodecs k.codec (codec_configs s ++ cs)
-  elements : map view_element k.elements.items ≡ audio_elements s ++ es
+record AreKept (k : Kept) (s : List ObuValue) (hs : List (SequenceHeaderFields × List ℕ)) (cs : List (CodecConfigFields × List ℕ)) (es : List (AudioElementFields × List ℕ)) (ms : List (MixPresentationFields × List ℕ)) : Type 0 where
+  header : AreHeaders k.header (with_tails header_in s ++ hs)
+  codec : AreCodecs k.codec (with_tails codec_in s ++ cs)
+  elements : map element_and_tail k.elements.items ≡ with_tails element_in s ++ es
   valid : All IsElement k.elements.items
-  mixes : map view_mix k.mixes.items ≡ mix_presentations s ++ ms
+  mixes : map mix_and_tail k.mixes.items ≡ with_tails mix_in s ++ ms
 
 -- and the units
 record AreUnitsKept (us : List temporal.Unit) (s : List ObuValue) : Type 0 where
@@ -74,15 +93,15 @@ record AreUnitsKept (us : List temporal.Unit) (s : List ObuValue) : Type 0 where
   trims : All HasTrim us
   later : HasNoLater s
 
-keeps_with : (k : Kept) (s : List ObuValue) (o : ObuValue) (hs : List SequenceHeaderFields) (cs : List CodecConfigFields) (es : List AudioElementFields) (ms : List MixPresentationFields)
-    → Says o hs cs es ms → AreKept k s hs cs es ms → AreUnitsKept k.units.items (s ++ o ∷ []) → Keeps k (s ++ o ∷ [])
-unfolding sequence_headers codec_configs audio_elements mix_presentations
+keeps_with : (k : Kept) (s : List ObuValue) (o : ObuValue) (hs : List (SequenceHeaderFields × List ℕ)) (cs : List (CodecConfigFields × List ℕ)) (es : List (AudioElementFields × List ℕ)) (ms : List (MixPresentationFields × List ℕ))
+    → SaysWithTail o hs cs es ms → AreKept k s hs cs es ms → AreUnitsKept k.units.items (s ++ o ∷ []) → Keeps k (s ++ o ∷ [])
+unfolding with_tails
 keeps_with k s o hs cs es ms says kept units = record {
-  header = subst (AreHeaders k.header) (sym (flat_map-push (of_plain header_in) s o ∙ ap (λ xs. flat_map (of_plain header_in) s ++ xs) says.headers)) kept.header;
-  codec = subst (AreCodecs k.codec) (sym (flat_map-push (of_plain codec_in) s o ∙ ap (λ xs. flat_map (of_plain codec_in) s ++ xs) says.codecs)) kept.codec;
-  elements = kept.elements ∙ sym (flat_map-push (of_plain element_in) s o ∙ ap (λ xs. flat_map (of_plain element_in) s ++ xs) says.elements);
+  header = subst (AreHeaders k.header) (sym (flat_map-push (with_tail header_in) s o ∙ ap (λ xs. flat_map (with_tail header_in) s ++ xs) says.headers)) kept.header;
+  codec = subst (AreCodecs k.codec) (sym (flat_map-push (with_tail codec_in) s o ∙ ap (λ xs. flat_map (with_tail codec_in) s ++ xs) says.codecs)) kept.codec;
+  elements = kept.elements ∙ sym (flat_map-push (with_tail element_in) s o ∙ ap (λ xs. flat_map (with_tail element_in) s ++ xs) says.elements);
   valid = kept.valid;
-  mixes = kept.mixes ∙ sym (flat_map-push (of_plain mix_in) s o ∙ ap (λ xs. flat_map (of_plain mix_in) s ++ xs) says.mixes);
+  mixes = kept.mixes ∙ sym (flat_map-push (with_tail mix_in) s o ∙ ap (λ xs. flat_map (with_tail mix_in) s ++ xs) says.mixes);
   units = units.units;
   trims = units.trims;
   later = units.later;
@@ -108,7 +127,7 @@ units_as_before k s o quiet keeps = record {
 -- ---- OBUs that say nothing
 
 pub keeps_none : (k : Kept) → k.header ≡ None → k.codec ≡ None → k.elements.items ≡ [] → k.mixes.items ≡ [] → k.units.items ≡ [] → Keeps k []
-unfolding sequence_headers codec_configs audio_elements mix_presentations temporal_units unit_count placed
+unfolding with_tails temporal_units unit_count placed
 keeps_none k no_header no_codec no_element no_mix no_unit = record {
   header = rw no_header refl;
   codec = rw no_codec refl;
@@ -122,7 +141,7 @@ keeps_none k no_header no_codec no_element no_mix no_unit = record {
 
 -- a redundant copy
 pub keeps_copy : (k : Kept) (s : List ObuValue) (o : ObuValue) → Keeps k s → o.head.redundant ≡ true → Keeps k (s ++ o ∷ [])
-keeps_copy k s o keeps copy = keeps_with k s o [] [] [] [] (copy_says o copy) (kept_as_before k s keeps) (units_as_before k s o (rw copy refl) keeps)
+keeps_copy k s o keeps copy = keeps_with k s o [] [] [] [] (copy_ends o copy) (kept_as_before k s keeps) (units_as_before k s o (rw copy refl) keeps)
 
 -- ---- one OBU is kept
 
@@ -134,27 +153,27 @@ pub keeps_header : (k : Kept) (h : SequenceHeader) (unit : ℕ) → IsKeptBy k (
 keeps_header k h unit s o view keeps said =
     let p : o.head.redundant ≡ false = plain_of o.head specs.SequenceHeader said.plain said.kind (λ e. cc) in
     let old = kept_as_before k s keeps in
-    keeps_with (record k { header = Some h }) s o (view_header h ∷ []) [] [] [] (plain_says o (specs.Header (view_header h)) p said.holds.0)
-    (record { header = ap (λ hs. hs ++ view_header h ∷ []) (said.first_header refl); codec = old.codec; elements = old.elements; valid = old.valid; mixes = old.mixes })
+    keeps_with (record k { header = Some h }) s o ((view_header h, h.tail.now) ∷ []) [] [] [] (plain_ends o (specs.Header (view_header h)) h.tail.now p said.holds.0 said.holds.1)
+    (record { header = ap (λ (hs : List (SequenceHeaderFields × List ℕ)). hs ++ (view_header h, h.tail.now) ∷ []) (no_header s (said.first_header refl)); codec = old.codec; elements = old.elements; valid = old.valid; mixes = old.mixes })
     (units_as_before k s o (rw (p, said.holds.0) refl) keeps)
 
 pub keeps_codec : (k : Kept) (r : CodecConfig) (unit : ℕ) → IsKeptBy k (record k { codec = Some r }) (contents.Codec r) unit
 keeps_codec k r unit s o view keeps said =
     let p : o.head.redundant ≡ false = plain_of o.head specs.CodecConfig said.plain said.kind (λ e. cc) in
     let old = kept_as_before k s keeps in
-    keeps_with (record k { codec = Some r }) s o [] (said.holds.0 ∷ []) [] [] (plain_says o (specs.Codec said.holds.0) p said.holds.2)
-    (record { header = old.header; codec = (said.holds.0, ap (λ cs. cs ++ said.holds.0 ∷ []) (said.first_codec refl), said.holds.1); elements = old.elements; valid = old.valid; mixes = old.mixes })
+    keeps_with (record k { codec = Some r }) s o [] ((said.holds.0, r.tail.now) ∷ []) [] [] (plain_ends o (specs.Codec said.holds.0) r.tail.now p said.holds.2 said.holds.3)
+    (record { header = old.header; codec = (said.holds.0, ap (λ (cs : List (CodecConfigFields × List ℕ)). cs ++ (said.holds.0, r.tail.now) ∷ []) (no_codec s (said.first_codec refl)), said.holds.1); elements = old.elements; valid = old.valid; mixes = old.mixes })
     (units_as_before k s o (rw (p, said.holds.2) refl) keeps)
 
 pub keeps_element : (k : Kept) (es : Vec AudioElement Global) (e : AudioElement) (unit : ℕ) → es.items ≡ k.elements.items ++ e ∷ [] → IsKeptBy k (record k { elements = es }) (contents.Element e) unit
 keeps_element k es e unit more s o view keeps said =
     let p : o.head.redundant ≡ false = plain_of o.head specs.AudioElement said.plain said.kind (λ e. cc) in
     let old = kept_as_before k s keeps in
-    keeps_with (record k { elements = es }) s o [] [] (view_element e ∷ []) [] (plain_says o (specs.Element (view_element e)) p said.holds.0)
+    keeps_with (record k { elements = es }) s o [] [] (element_and_tail e ∷ []) [] (plain_ends o (specs.Element (view_element e)) e.tail.now p said.holds.0 said.holds.1)
     (record {
       header = old.header;
       codec = old.codec;
-      elements = ap (map view_element) more ∙ map-append view_element k.elements.items (e ∷ []) ∙ ap (λ xs. xs ++ view_element e ∷ []) keeps.elements;
+      elements = ap (map element_and_tail) more ∙ map-append element_and_tail k.elements.items (e ∷ []) ∙ ap (λ (xs : List (AudioElementFields × List ℕ)). xs ++ element_and_tail e ∷ []) keeps.elements;
       valid = rw more (All-push IsElement k.elements.items e keeps.valid (said.whole.0.frame_length, said.whole.1));
       mixes = old.mixes;
     })
@@ -164,13 +183,13 @@ pub keeps_mix : (k : Kept) (ms : Vec MixPresentation Global) (m : MixPresentatio
 keeps_mix k ms m unit more s o view keeps said =
     let p : o.head.redundant ≡ false = plain_of o.head specs.MixPresentation said.plain said.kind (λ e. cc) in
     let old = kept_as_before k s keeps in
-    keeps_with (record k { mixes = ms }) s o [] [] [] (view_mix m ∷ []) (plain_says o (specs.Mix (view_mix m)) p said.holds.0)
+    keeps_with (record k { mixes = ms }) s o [] [] [] (mix_and_tail m ∷ []) (plain_ends o (specs.Mix (view_mix m)) m.tail.now p said.holds.0 said.holds.1)
     (record {
       header = old.header;
       codec = old.codec;
       elements = old.elements;
       valid = old.valid;
-      mixes = ap (map view_mix) more ∙ map-append view_mix k.mixes.items (m ∷ []) ∙ ap (λ xs. xs ++ view_mix m ∷ []) keeps.mixes;
+      mixes = ap (map mix_and_tail) more ∙ map-append mix_and_tail k.mixes.items (m ∷ []) ∙ ap (λ (xs : List (MixPresentationFields × List ℕ)). xs ++ mix_and_tail m ∷ []) keeps.mixes;
     })
     (units_as_before k s o (rw (p, said.holds.0) refl) keeps)
 
@@ -178,9 +197,12 @@ keeps_mix k ms m unit more s o view keeps said =
 pub nothing_says : (o : ObuValue) → o.content ≡ specs.Nothing → Says o [] [] [] []
 nothing_says o says = elim (cases_Bool o.head.redundant) [ inl copy ↦ copy_says o copy | inr plain ↦ plain_says o specs.Nothing plain says ]
 
+nothing_ends : (o : ObuValue) → o.content ≡ specs.Nothing → SaysWithTail o [] [] [] []
+nothing_ends o says = elim (cases_Bool o.head.redundant) [ inl copy ↦ copy_ends o copy | inr plain ↦ plain_ends o specs.Nothing o.tail plain says refl ]
+
 pub keeps_reserved : (k : Kept) (unit : ℕ) → IsKeptBy k k contents.Reserved unit
 keeps_reserved k unit s o view keeps said =
-    keeps_with k s o [] [] [] [] (nothing_says o said.holds.0) (kept_as_before k s keeps) (units_as_before k s o (rw (said.holds.0, reserved_type o.head.kind (sym said.kind)) (one o.head.redundant)) keeps)
+    keeps_with k s o [] [] [] [] (nothing_ends o said.holds.0) (kept_as_before k s keeps) (units_as_before k s o (rw (said.holds.0, reserved_type o.head.kind (sym said.kind)) (one o.head.redundant)) keeps)
   where
     one : (b : Bool) → is_data (if b then roles.Ignored else roles.Ignored) ≡ false
     one true = refl
@@ -239,7 +261,7 @@ pub keeps_frame : (k : Kept) (units : Vec temporal.Unit Global) (f : FrameView) 
 keeps_frame k units f unit is trims s o view keeps said =
     let p : o.head.redundant ≡ false = plain_of o.head specs.AudioFrame said.plain said.kind (λ e. cc) in
     let old = kept_as_before k s keeps in
-    keeps_with (record k { units = units }) s o [] [] [] [] (plain_says o (specs.Frame f.substream) p said.holds.0)
+    keeps_with (record k { units = units }) s o [] [] [] [] (plain_ends o (specs.Frame f.substream) o.tail p said.holds.0 refl)
     (record { header = old.header; codec = old.codec; elements = old.elements; valid = old.valid; mixes = old.mixes })
     (units_with k units.items s o unit (with_frame f) (frame_change o f (frame_is o f view.head said.head said.holds.0 said.holds.1 said.holds.2) (rw said.holds.0 refl)) (rw (p, said.holds.0) refl) said.adds keeps is trims)
 
@@ -247,7 +269,7 @@ pub keeps_block : (k : Kept) (units : Vec temporal.Unit Global) (b : ParameterBl
 keeps_block k units b unit is trims s o view keeps said =
     let p : o.head.redundant ≡ false = plain_of o.head specs.ParameterBlock said.plain said.kind (λ e. cc) in
     let old = kept_as_before k s keeps in
-    keeps_with (record k { units = units }) s o [] [] [] [] (plain_says o (specs.Block (view_block b)) p said.holds.0)
+    keeps_with (record k { units = units }) s o [] [] [] [] (plain_ends o (specs.Block (view_block b)) o.tail p said.holds.0 refl)
     (record { header = old.header; codec = old.codec; elements = old.elements; valid = old.valid; mixes = old.mixes })
     (units_with k units.items s o unit (with_block b) (block_change o b (rw said.holds.0 refl) (rw (said.holds.0, said.holds.1) refl)) (rw (p, said.holds.0) refl) said.adds keeps is trims)
 
@@ -255,7 +277,7 @@ pub keeps_delimiter : (k : Kept) (units : Vec temporal.Unit Global) (unit : ℕ)
 keeps_delimiter k units unit is trims s o view keeps said =
     let p : o.head.redundant ≡ false = plain_of o.head specs.TemporalDelimiter said.plain said.kind (λ e. cc) in
     let old = kept_as_before k s keeps in
-    keeps_with (record k { units = units }) s o [] [] [] [] (nothing_says o said.holds.0)
+    keeps_with (record k { units = units }) s o [] [] [] [] (nothing_ends o said.holds.0)
     (record { header = old.header; codec = old.codec; elements = old.elements; valid = old.valid; mixes = old.mixes })
     (units_with k units.items s o unit (λ v. v) (no_change o (rw said.holds.0 refl) (rw said.holds.0 refl)) (rw (p, said.holds.0, delimiter_type o.head.kind (sym said.kind)) refl) said.adds keeps
     (is ∙ sym (change_last-none (opened unit (map view_unit k.units.items)))) trims)

@@ -17,6 +17,7 @@ pub mod KindRoles
 pub mod Lasting
 pub mod MixIds
 pub mod NoDefinition
+pub mod ObuPlaces
 pub mod OriginalsKept
 pub mod Parting
 pub mod Printing
@@ -38,4 +39,5 @@ pub mod UnitNumbers
 pub mod Views
 pub mod Walking
 pub mod Whole
+pub mod WithTails
 pub mod Writing

@@ -1,16 +1,20 @@
 -- What a sequence holds, by the OBUs that it is made of.
-use Rattle.std.proofs.Common.{◌≡◌, ℕ, zero, suc, ◌<◌, List, [], ◌∷◌, length, get_or, refl, sym, ap, subst, ◌∙◌, arith}
-use Rattle.std.specs.Prelude.{Some, slice_get}
+use Rattle.std.proofs.Common.{◌≡◌, ℕ, zero, suc, ◌<◌, List, [], ◌∷◌, length, get_or, map, refl, sym, ap, subst, ◌∙◌, arith}
+use Rattle.std.specs.Prelude.{Some, slice_get, option_map}
+use Rattle.std.proofs.lemmas.Option.{slice_get-map, slice_get-get_or}
 use Rattle.std.proofs.lemmas.List.{length-map}
 use Rattle.spec_sequence.specs.Units.{unit_count}
-use Rattle.spec_sequence.specs.Parts.{UnitValue, temporal_units}
+use Rattle.spec_sequence.specs.Parts.{UnitValue, audio_elements, mix_presentations, temporal_units}
 use Rattle.spec_sequence.specs.Reading.{Entry, values_of, roles}
 use Rattle.spec_sequence.proofs.Roles.{roles_of_values}
 use Rattle.obu_header.specs.declared.view.ObuView.{ObuView}
+use Rattle.obu_descriptors.specs.ElementView.{view_element}
+use Rattle.obu_mix.specs.MixView.{view_mix}
 use Rattle.iamf_sequence.specs.declared.unit.Unit as temporal
 use Rattle.iamf_sequence.specs.declared.parts.Placed.{Placed}
 use Rattle.iamf_sequence.specs.declared.parts.Parts.{Parts}
 use Rattle.iamf_sequence.specs.UnitView.{IsUnit, AreUnits}
+use Rattle.iamf_sequence.specs.SequenceValue.{SequenceValue}
 use Rattle.iamf_sequence.specs.SequenceView.{AreViews, views_of, IsSequence}
 use Rattle.iamf_sequence.proofs.Parting.{length-temporal_units}
 
@@ -28,11 +32,24 @@ same_length [] (v ∷ vs) h = absurd h
 same_length (u ∷ us) [] h = absurd h
 same_length (u ∷ us) (v ∷ vs) h = ap suc (same_length us vs h.1)
 
-pub obus_counted : (p : Parts) (l : List Entry) → IsSequence p l → length p.obus.items ≡ length l
-obus_counted p l s = sym (length-map p.obus.items (λ (o : Placed). o.view)) ∙ views_length (views_of p.obus.items) l s.views
+pub obus_counted : (p : Parts) (v : SequenceValue) → IsSequence p v → length p.obus.items ≡ length v.entries
+obus_counted p v s = sym (length-map p.obus.items (λ (o : Placed). o.view)) ∙ views_length (views_of p.obus.items) v.entries s.views
 
-pub units_counted : (p : Parts) (l : List Entry) → IsSequence p l → length p.units.items ≡ unit_count (roles l)
-units_counted p l s = same_length p.units.items (temporal_units (values_of l)) s.units ∙ length-temporal_units (values_of l) ∙ ap unit_count (roles_of_values l)
+pub units_counted : (p : Parts) (v : SequenceValue) → IsSequence p v → length p.units.items ≡ unit_count (roles v.entries)
+units_counted p v s = same_length p.units.items (temporal_units (values_of v.entries)) s.units ∙ length-temporal_units (values_of v.entries) ∙ ap unit_count (roles_of_values v.entries)
+
+pub elements_counted : (p : Parts) (v : SequenceValue) → IsSequence p v → length p.elements.items ≡ length (audio_elements (values_of v.entries))
+elements_counted p v s = sym (length-map p.elements.items view_element) ∙ ap length s.elements
+
+pub mixes_counted : (p : Parts) (v : SequenceValue) → IsSequence p v → length p.mixes.items ≡ length (mix_presentations (values_of v.entries))
+mixes_counted p v s = sym (length-map p.mixes.items view_mix) ∙ ap length s.mixes
+
+-- ---- an element of a list by its number
+
+pub found_at : {X Y : Type 0} (f : X → Y) (xs zs : List X) (ys : List Y) (i : ℕ) (x : X) → zs ≡ xs → x ≡ get_or zs i x → i < length xs → map f xs ≡ ys → slice_get ys i ≡ Some (f x)
+found_at {X} {Y} f xs zs ys i x same is below are =
+    ap (λ (l : List Y). slice_get l i) (sym are) ∙ slice_get-map f xs i
+    ∙ ap (option_map f) (slice_get-get_or xs i x below ∙ ap Some (sym (is ∙ ap (λ (l : List X). get_or l i x) same)))
 
 -- ---- a unit by its number
 
@@ -42,8 +59,8 @@ unit_at (x ∷ us) [] u d h below = absurd h
 unit_at (x ∷ us) (v ∷ vs) zero d h below = (v, refl, h.0)
 unit_at (x ∷ us) (v ∷ vs) (suc u) d h below = unit_at us vs u d h.1 (omega arith)
 
-pub unit_found : (p : Parts) (l : List Entry) (us : List temporal.Unit) (u : ℕ) (x d : temporal.Unit) → us ≡ p.units.items → x ≡ get_or us u d → u < length p.units.items → IsSequence p l
-    → (v : UnitValue) × (slice_get (temporal_units (values_of l)) u ≡ Some v) × IsUnit x v
-unit_found p l us u x d are is below s =
-    subst (λ (y : temporal.Unit). (v : UnitValue) × (slice_get (temporal_units (values_of l)) u ≡ Some v) × IsUnit y v) (sym (is ∙ ap (λ (ys : List temporal.Unit). get_or ys u d) are))
-    (unit_at p.units.items (temporal_units (values_of l)) u d s.units below)
+pub unit_found : (p : Parts) (v : SequenceValue) (us : List temporal.Unit) (u : ℕ) (x d : temporal.Unit) → us ≡ p.units.items → x ≡ get_or us u d → u < unit_count (roles v.entries) → IsSequence p v
+    → (w : UnitValue) × (slice_get (temporal_units (values_of v.entries)) u ≡ Some w) × IsUnit x w
+unit_found p v us u x d are is below s =
+    subst (λ (y : temporal.Unit). (w : UnitValue) × (slice_get (temporal_units (values_of v.entries)) u ≡ Some w) × IsUnit y w) (sym (is ∙ ap (λ (ys : List temporal.Unit). get_or ys u d) are))
+    (unit_at p.units.items (temporal_units (values_of v.entries)) u d s.units (subst (λ n. u < n) (sym (units_counted p v s)) below))

@@ -1,8 +1,7 @@
 -- One more OBU of the bytes is written, and the end of them.
-use Rattle.std.proofs.Common.{◌≡◌, ℕ, ◌-◌, List, [], ◌∷◌, ◌++◌, take, drop, length, refl, sym, ap, subst, ◌∙◌, append_assoc, append-nil}
-use Rattle.std.specs.Prelude.{None, Result, Ok, Err, IfOk}
+use Rattle.std.proofs.Common.{◌≡◌, ℕ, ◌-◌, List, [], ◌∷◌, ◌++◌, take, drop, refl, sym, ap, subst, ◌∙◌, append_assoc, append-nil}
+use Rattle.std.specs.Prelude.{Result, Ok, Err, OnOk}
 use Rattle.std.proofs.lemmas.List.{take-append-drop}
-use Rattle.std.proofs.Math.Seq.{take-length}
 use Rattle.spec_bits.specs.Bits.{Bits, AreBytes, all_bits}
 use Rattle.spec_bits.proofs.BitsLaws.{all_bits-append}
 use Rattle.spec_bits.proofs.ByteForms.{AreBytes-append, AreBytes-parts}
@@ -11,16 +10,20 @@ use Rattle.spec_blocks.specs.Shape.{Definition}
 use Rattle.spec_sequence.specs.Content.{Context, PayloadOf}
 use Rattle.spec_sequence.specs.Value.{ObuValue, Spells}
 use Rattle.spec_sequence.specs.Canonical.{canonical_obu, encoded}
+use Rattle.spec_sequence.specs.Role.{Role}
 use Rattle.spec_sequence.specs.Descriptors.{frame_length, definitions, context_of}
-use Rattle.spec_sequence.specs.Rules.{end_fault}
-use Rattle.spec_sequence.specs.Reading.{Entry, Admitted, AdmittedAfter, Reads, values_of, roles, context_after}
+use Rattle.spec_sequence.specs.Reading.{Entry, AdmittedAfter, values_of, roles, context_after}
 use Rattle.spec_sequence.proofs.BytesOfBits.{bytes-drop}
 use Rattle.spec_sequence.proofs.Roles.{values_more}
 use Rattle.obu_header.specs.View.{head_of}
-use Rattle.iamf_sequence.specs.declared.reader.Next.{Next}
-use Rattle.iamf_sequence.specs.declared.refusal.DecodeError.{DecodeError}
+use Rattle.obu_header.specs.declared.view.ObuView.{ObuView}
+use Rattle.iamf_sequence.specs.declared.reader.Reader.{Reader}
+use Rattle.iamf_sequence.specs.declared.reader.Admitted.{Admitted as AdmittedObu}
 use Rattle.iamf_sequence.specs.Encoding.{context, IsViewOf}
-use Rattle.iamf_sequence.specs.ReaderView.{IsNext, Finishes}
+use Rattle.iamf_sequence.specs.declared.respelling.Respelling.{Respelling}
+use Rattle.iamf_sequence.specs.RulesView.{StandsFor}
+use Rattle.iamf_sequence.specs.ReaderView.{IsOneMore}
+use Rattle.iamf_sequence.specs.Respelled.{IsRespelled}
 use Rattle.iamf_sequence.proofs.Advancing.{keeps_admitted}
 use Rattle.iamf_sequence.proofs.Joining.{canonical_bytes}
 use Rattle.iamf_sequence.proofs.Lasting.{lasting}
@@ -34,21 +37,21 @@ context_is l n ds length_is definitions_are = ap (λ (k : ℕ). context k (defin
 piece_bytes : (k at : ℕ) (bytes : List ℕ) → AreBytes bytes → AreBytes (take k (drop at bytes))
 piece_bytes k at bytes are = (AreBytes-parts (take k (drop at bytes)) (drop k (drop at bytes)) (subst AreBytes (sym (take-append-drop k (drop at bytes))) (bytes-drop at bytes are))).0
 
-pub view_is : (n : ℕ) (ds : List Definition) (bytes : List ℕ) (at : ℕ) (next : Next) (l : List Entry) (e : Entry) → AreBytes bytes → Admitted (take at bytes) l → IsNext bytes at next l e
-    → n ≡ frame_length (roles (l ++ e ∷ [])) → ds ≡ definitions (roles (l ++ e ∷ [])) → IsViewOf n ds next.view e.value
-view_is n ds bytes at next l e are admitted is length_is definitions_are =
-    let piece : List ℕ = take (next.view.end - at) (drop at bytes) in
-    let taken = is.taken in
+pub view_is : (n : ℕ) (ds : List Definition) (bytes : List ℕ) (at : ℕ) (r : Reader) (view : ObuView) (obu : AdmittedObu) (l : List Entry) (e : Entry) → IsOneMore bytes at r view obu l e
+    → n ≡ frame_length (roles (l ++ e ∷ [])) → ds ≡ definitions (roles (l ++ e ∷ [])) → IsViewOf n ds view e.value
+view_is n ds bytes at r view obu l e is length_is definitions_are =
+    let piece : List ℕ = take (view.end - at) (drop at bytes) in
+    let taken = is.next.taken in
     let header : Header e.value.head e.payload piece =
-    subst (λ (h : Head). Header h e.payload piece) (sym taken.head) (subst (λ (b : List ℕ). Header (head_of next.view.head) b piece) (sym taken.payload) is.header) in
+    subst (λ (h : Head). Header h e.payload piece) (sym taken.head) (subst (λ (b : List ℕ). Header (head_of view.head) b piece) (sym taken.payload) is.next.header) in
     let after : AdmittedAfter l piece (e ∷ []) = (piece, [], sym (append-nil piece), record { header = header; payload_is = taken.payload_is }, taken.admissible, refl) in
-    let last : PayloadOf (context_after (l ++ e ∷ [])) e.value.head.kind e.value.content e.value.tail e.payload = lasting l piece e [] (keeps_admitted (take at bytes) l admitted) after in
+    let last : PayloadOf (context_after (l ++ e ∷ [])) e.value.head.kind e.value.content e.value.tail e.payload = lasting l piece e [] (keeps_admitted (take at bytes) l is.before) after in
     let says : PayloadOf (context n ds) e.value.head.kind e.value.content e.value.tail e.payload =
     subst (λ (x : Context). PayloadOf x e.value.head.kind e.value.content e.value.tail e.payload) (context_is (l ++ e ∷ []) n ds length_is definitions_are) last in
     record {
       head = taken.head;
       bytes = piece;
-      are = piece_bytes (next.view.end - at) at bytes are;
+      are = piece_bytes (view.end - at) at bytes is.are;
       spells = subst (λ (b : List ℕ). Spells (context n ds) e.value b piece) taken.payload (record { header = header; payload_is = says });
     }
 
@@ -69,13 +72,17 @@ pub bits_more : (l : List Entry) (e : Entry) (old new : Bits) → old ≡ all_bi
 bits_more l e old new before more =
     more ∙ ap (λ (b : Bits). b ++ all_bits (canonical_obu e.value)) before ∙ sym (all_bits-append (encoded (values_of l)) (canonical_obu e.value)) ∙ ap all_bits (sym (encoded_more l e))
 
-pub bytes_more : (n : ℕ) (ds : List Definition) (next : Next) (l : List Entry) (e : Entry) → IsViewOf n ds next.view e.value → AreBytes (encoded (values_of l)) → AreBytes (encoded (values_of (l ++ e ∷ [])))
-bytes_more n ds next l e is are =
-    subst AreBytes (sym (encoded_more l e)) (AreBytes-append (encoded (values_of l)) (canonical_obu e.value) are (canonical_bytes (context n ds) e.value next.view.payload.now is.bytes is.spells is.are))
+pub bytes_more : (n : ℕ) (ds : List Definition) (view : ObuView) (l : List Entry) (e : Entry) → IsViewOf n ds view e.value → AreBytes (encoded (values_of l)) → AreBytes (encoded (values_of (l ++ e ∷ [])))
+bytes_more n ds view l e is are =
+    subst AreBytes (sym (encoded_more l e)) (AreBytes-append (encoded (values_of l)) (canonical_obu e.value) are (canonical_bytes (context n ds) e.value view.payload.now is.bytes is.spells is.are))
 
--- ---- the end
+-- ---- one more OBU
 
-pub spelled : {X : Type 0} (bytes : List ℕ) (l : List Entry) (items : X → List ℕ) (r : Result X DecodeError) → Admitted (take (length bytes) bytes) l
-    → Finishes bytes l (λ v. (end_fault (roles l) ≡ None) × (items v ≡ encoded (values_of l))) r → IfOk r (λ v. (s : List ObuValue) × Reads bytes s × (items v ≡ encoded s))
-spelled bytes l items (Ok v) admitted h = (values_of l, record { entries = l; values_are = refl; admitted = subst (λ (b : List ℕ). Admitted b l) (take-length bytes) admitted; whole = h.0 }, h.1)
-spelled bytes l items (Err e) admitted h = tt
+pub respelled_more : {E : Type 0} (r : Result (Unit {0}) E) (old new : Respelling) (n : ℕ) (reader : Reader) (view : ObuView) (obu : AdmittedObu) → ((l : List Role) → StandsFor reader.rules l → n ≡ frame_length l)
+    → OnOk r ((o : ObuValue) → IsViewOf n reader.rules.definitions view o → new.out.bits ≡ old.out.bits ++ all_bits (canonical_obu o)) → OnOk r (new.out.used ≡ 0)
+    → OnOk r ((bytes : List ℕ) (at : ℕ) (l : List Entry) (e : Entry) → IsRespelled old l → IsOneMore bytes at reader view obu l e → IsRespelled new (l ++ e ∷ []))
+respelled_more (Ok u) old new n reader view obu length_is bits used = λ bytes at l e is one.
+    let rules = one.after.reader.rules in
+    let v = view_is n reader.rules.definitions bytes at reader view obu l e one (length_is (roles (l ++ e ∷ [])) rules) rules.definitions_are in
+    record { used = used; bits = bits_more l e old.out.bits new.out.bits is.bits (bits e.value v); are = bytes_more n reader.rules.definitions view l e v is.are }
+respelled_more (Err x) old new n reader view obu length_is bits used = tt

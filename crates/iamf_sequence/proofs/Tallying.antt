@@ -1,11 +1,6 @@
 -- The lines of the report stand for one more OBU.
 use Rattle.std.proofs.Common.{◌≡◌, ℕ, ◌≤◌, ◌^◌, Bool, true, false, List, [], ◌∷◌, ◌++◌, map, length, refl, sym, ap, subst, ◌∙◌, append-nil, arith}
 use Rattle.std.specs.Prelude.{Option, Some, None, Result, Ok, Err, OnOk, IfOk, if◌then◌else◌, take}
-use Rattle.std.proofs.Math.Seq.{take-length}
-use Rattle.spec_sequence.specs.Rules.{end_fault}
-use Rattle.spec_sequence.specs.Reading.{Entry, Admitted, Reads, values_of, roles as entry_roles}
-use Rattle.iamf_sequence.specs.declared.lines.Summary.{Summary}
-use Rattle.iamf_sequence.specs.declared.refusal.DecodeError.{DecodeError}
 use Rattle.std.specs.List.{flat_map, list_any}
 use Rattle.std.proofs.lemmas.List.{nil_from_length}
 use Rattle.spec_descriptors.specs.SequenceHeader.{SequenceHeaderFields}
@@ -27,7 +22,8 @@ use Rattle.spec_sequence.proofs.NoFault.{header_before, codec_before, element_be
 use Rattle.spec_sequence.proofs.Placing.{unit_count-none}
 use Rattle.spec_sequence.proofs.Ranks.{order_parts, no_mix, no_data-order}
 use Rattle.spec_sequence.proofs.RedundantCopies.{plain_of}
-use Rattle.spec_sequence.proofs.Roles.{roles_of_more}
+use Rattle.spec_sequence.specs.Reading.{Entry, values_of, roles as entry_roles}
+use Rattle.spec_sequence.proofs.Roles.{roles_of_more, roles_of_values, values_more}
 use Rattle.spec_sequence.proofs.RolesOfParts.{profiles_are, mixes_are}
 use Rattle.iamf_admission.specs.Admitted.{HasNoFault}
 use Rattle.iamf_admission.proofs.Admitting.{orderly-admitted}
@@ -49,11 +45,14 @@ use Rattle.iamf_sequence.specs.declared.lines.CodecLine.{CodecLine}
 use Rattle.iamf_sequence.specs.declared.lines.MixLine.{MixLine}
 use Rattle.iamf_sequence.specs.declared.lines.ProfileLine.{ProfileLine}
 use Rattle.iamf_sequence.specs.declared.tally.Lines.{Lines}
+use Rattle.iamf_sequence.specs.declared.reader.Reader.{Reader}
+use Rattle.iamf_sequence.specs.declared.reader.Admitted.{Admitted as AdmittedObu}
 use Rattle.iamf_sequence.specs.declared.unit_count.UnitCount.{UnitCount}
 use Rattle.iamf_sequence.specs.CountView.{IsCount}
 use Rattle.iamf_sequence.specs.KeptView.{HasNoLater}
-use Rattle.iamf_sequence.specs.ReaderView.{IsSaid, Finishes}
-use Rattle.iamf_sequence.specs.Summing.{IsProfileLine, IsCodecLine, AreElementLines, AreMixLines, AreTotals, Knows, IsSummary}
+use Rattle.iamf_sequence.specs.RulesView.{StandsFor}
+use Rattle.iamf_sequence.specs.ReaderView.{IsSaid, IsOneMore, Says as Tells}
+use Rattle.iamf_sequence.specs.Summing.{IsProfileLine, IsCodecLine, AreElementLines, AreMixLines, AreTotals, Knows}
 use Rattle.iamf_sequence.specs.TallyView.{IsProfile, IsCodec, AreLines, AddsElement, AddsMix, primary_of}
 use Rattle.iamf_sequence.specs.UnitView.{opened, change_last, with_frame, with_block}
 use Rattle.iamf_sequence.proofs.Keeping.{Says, plain_says, copy_says, nothing_says, frame_is, frame_change, block_change, no_change, change_last-same, change_last-none}
@@ -323,15 +322,14 @@ pub mix_added : {E : Type 0} (r : Result (Unit {0}) E) (t new : Lines) (m : MixP
 mix_added (Ok u) t new m unit n adds = adds_mix t new m unit n adds
 mix_added (Err x) t new m unit n adds = tt
 
--- of one view
-pub said_added : {E : Type 0} (r : Result (Unit {0}) E) (old new : Lines) (content : Content) (unit n : ℕ) (view : ObuView) → OnOk r (IsAddedBy old new content unit n)
-    → OnOk r ((s : List ObuValue) (o : ObuValue) → AreLines old s → IsSaid content unit view s o → n ≡ frame_length (roles_of (s ++ o ∷ [])) → unit_count (roles_of s) ≤ 2 ^ 41 → AreLines new (s ++ o ∷ []))
-said_added (Ok u) old new content unit n view adds = λ s o. adds s o view
-said_added (Err x) old new content unit n view adds = tt
+-- ---- of the bytes
 
--- ---- the end
-
-pub finish_reads : (bytes : List ℕ) (l : List Entry) (r : Result Summary DecodeError) → Admitted (take (length bytes) bytes) l
-    → Finishes bytes l (λ y. (end_fault (entry_roles l) ≡ None) × IsSummary y (values_of l)) r → IfOk r (λ y. (s : List ObuValue) × Reads bytes s × IsSummary y s)
-finish_reads bytes l (Ok y) admitted h = (values_of l, record { entries = l; values_are = refl; admitted = subst (λ (b : List ℕ). Admitted b l) (take-length bytes) admitted; whole = h.0 }, h.1)
-finish_reads bytes l (Err e) admitted h = tt
+pub lines_more : {E : Type 0} (r : Result (Unit {0}) E) (old new : Lines) (n : ℕ) (reader : Reader) (view : ObuView) (obu : AdmittedObu) → ((l : List Role) → StandsFor reader.rules l → n ≡ frame_length l)
+    → OnOk r ((s : List ObuValue) (o : ObuValue) (v : ObuView) → AreLines old s → Tells obu.content obu.unit v s o → n ≡ frame_length (roles_of (s ++ o ∷ [])) → unit_count (roles_of s) ≤ 2 ^ 41 → AreLines new (s ++ o ∷ []))
+    → OnOk r ((bytes : List ℕ) (at : ℕ) (l : List Entry) (e : Entry) → AreLines old (values_of l) → IsOneMore bytes at reader view obu l e → AreLines new (values_of (l ++ e ∷ [])))
+lines_more (Ok u) old new n reader view obu length_is adds = λ bytes at l e are one.
+    let length : n ≡ frame_length (roles_of (values_of l ++ e.value ∷ [])) =
+    length_is (entry_roles (l ++ e ∷ [])) one.after.reader.rules ∙ ap frame_length (sym (roles_of_values (l ++ e ∷ []))) ∙ ap (λ (s : List ObuValue). frame_length (roles_of s)) (values_more l e) in
+    let few : unit_count (roles_of (values_of l)) ≤ 2 ^ 41 = subst (λ (k : List Role). unit_count k ≤ 2 ^ 41) (sym (roles_of_values l)) one.few in
+    subst (AreLines new) (sym (values_more l e)) (adds (values_of l) e.value view are one.next.taken.says length few)
+lines_more (Err x) old new n reader view obu length_is adds = tt

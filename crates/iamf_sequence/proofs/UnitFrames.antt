@@ -8,11 +8,9 @@ use Rattle.spec_sequence.specs.Units.{contains, streams_in, unit_count}
 use Rattle.spec_sequence.specs.Parts.{roles_of, FrameValue, UnitValue, unit_value, temporal_units}
 use Rattle.spec_sequence.specs.Reading.{Entry, values_of, roles}
 use Rattle.spec_sequence.proofs.Roles.{roles_of_values}
-use Rattle.iamf_sequence.specs.declared.parts.Parts.{Parts}
 use Rattle.iamf_sequence.specs.UnitView.{frame_with}
-use Rattle.iamf_sequence.specs.SequenceView.{IsSequence}
+use Rattle.iamf_sequence.specs.SequenceValue.{IsRead}
 use Rattle.iamf_sequence.proofs.Whole.{streams_are, unit_is}
-use Rattle.iamf_sequence.proofs.SequenceParts.{units_counted}
 use Rattle.iamf_sequence.proofs.Complete.{streams_of_unit}
 use Rattle.iamf_sequence.proofs.RolesAdmitted.{roles_admitted}
 
@@ -23,12 +21,11 @@ frame_there s (f ∷ fs) = one (eqb f.substream s) (frame_there s fs) where
   one true rest = refl
   one false rest = rest
 
-pub unit_complete : (p : Parts) (l : List Entry) (u : ℕ) (v : UnitValue) (s : ℕ) → u < length p.units.items → IsSequence p l → slice_get (temporal_units (values_of l)) u ≡ Some v
+pub unit_complete : (bytes : List ℕ) (l : List Entry) (u : ℕ) (v : UnitValue) (s : ℕ) → u < unit_count (roles l) → IsRead bytes l → slice_get (temporal_units (values_of l)) u ≡ Some v
     → is_some (frame_with s v.frames) ≡ contains (substreams (roles l)) s
-unit_complete p l u v s below is there =
-    let begun : u < unit_count (roles l) = subst (λ n. u < n) (units_counted p l is) below in
+unit_complete bytes l u v s begun is there =
     let begun_values : u < unit_count (roles_of (values_of l)) = subst (λ (ls : List Role). u < unit_count ls) (sym (roles_of_values l)) begun in
     let same : unit_value u (values_of l) ≡ v = same_Some (unit_value u (values_of l)) v (sym (unit_is (values_of l) u begun_values) ∙ there) in
     let streams : streams_in u (roles l) ≡ map (λ f. f.substream) v.frames =
     ap (streams_in u) (sym (roles_of_values l)) ∙ streams_are u (values_of l) ∙ ap (λ (w : UnitValue). map (λ f. f.substream) w.frames) same in
-    frame_there s v.frames ∙ ap (λ (xs : List ℕ). contains xs s) (sym streams) ∙ streams_of_unit (roles l) u s (roles_admitted p.buffer.now l is.admitted) is.whole begun
+    frame_there s v.frames ∙ ap (λ (xs : List ℕ). contains xs s) (sym streams) ∙ streams_of_unit (roles l) u s (roles_admitted bytes l is.admitted) is.whole begun

@@ -1,14 +1,16 @@
 -- The number of each OBU's unit.
-use Rattle.std.proofs.Common.{◌≡◌, ℕ, zero, suc, ◌<◌, List, [], ◌∷◌, ◌++◌, length, get_or, map, take, refl, sym, ap, ◌∙◌, append_assoc, append-nil}
+use Rattle.std.proofs.Common.{◌≡◌, ℕ, zero, suc, ◌<◌, List, [], ◌∷◌, ◌++◌, length, get_or, map, take, refl, sym, ap, subst, ◌∙◌, append_assoc, append-nil}
 use Rattle.std.specs.Prelude.{Option, Some, None, option_map, slice_get}
 use Rattle.std.proofs.lemmas.Option.{slice_get-map, slice_get-get_or}
 use Rattle.spec_sequence.specs.Role.{Role}
 use Rattle.spec_sequence.specs.Units.{unit_at, unit_of}
-use Rattle.spec_sequence.specs.Reading.{Entry, roles}
+use Rattle.spec_sequence.specs.Reading.{roles}
 use Rattle.iamf_sequence.specs.declared.parts.Placed.{Placed}
 use Rattle.iamf_sequence.specs.declared.parts.Parts.{Parts}
 use Rattle.iamf_sequence.specs.ReaderView.{number_after}
+use Rattle.iamf_sequence.specs.SequenceValue.{SequenceValue}
 use Rattle.iamf_sequence.specs.SequenceView.{numbers_after, IsSequence}
+use Rattle.iamf_sequence.proofs.SequenceParts.{obus_counted}
 
 -- the number of an OBU comes of those before it
 numbers_at : (past l : List Role) (i : ℕ) → slice_get (numbers_after past l) i ≡ option_map (number_after (past ++ take i l)) (slice_get l i)
@@ -29,7 +31,8 @@ unit_of_is l i n e = number_is l i (slice_get l i) n (sym (numbers_at [] l i) �
 seen_at : (ps : List Placed) (i : ℕ) (d : Placed) → i < length ps → slice_get (map (λ o. o.unit) ps) i ≡ Some (get_or ps i d).unit
 seen_at ps i d below = slice_get-map (λ (o : Placed). o.unit) ps i ∙ ap (option_map (λ (o : Placed). o.unit)) (slice_get-get_or ps i d below)
 
-pub number_at : (p : Parts) (l : List Entry) (ps : List Placed) (i : ℕ) (d : Placed) → ps ≡ p.obus.items → i < length p.obus.items → IsSequence p l → (get_or ps i d).unit ≡ unit_of (roles l) i
-number_at p l ps i d are below s =
+pub number_at : (p : Parts) (v : SequenceValue) (ps : List Placed) (i : ℕ) (d : Placed) → ps ≡ p.obus.items → i < length v.entries → IsSequence p v → (get_or ps i d).unit ≡ unit_of (roles v.entries) i
+number_at p v ps i d are below s =
+    let within : i < length p.obus.items = subst (λ n. i < n) (sym (obus_counted p v s)) below in
     ap (λ (qs : List Placed). (get_or qs i d).unit) are
-    ∙ unit_of_is (roles l) i (get_or p.obus.items i d).unit (ap (λ (ns : List (Option ℕ)). slice_get ns i) (sym s.numbers) ∙ seen_at p.obus.items i d below)
+    ∙ unit_of_is (roles v.entries) i (get_or p.obus.items i d).unit (ap (λ (ns : List (Option ℕ)). slice_get ns i) (sym s.numbers) ∙ seen_at p.obus.items i d within)

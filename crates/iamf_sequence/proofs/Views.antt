@@ -17,6 +17,7 @@ use Rattle.spec_sequence.proofs.RolesOfParts.{codecs_are}
 use Rattle.spec_sequence.proofs.Roles.{roles_of_values}
 use Rattle.iamf_sequence.specs.declared.parts.Placed.{Placed}
 use Rattle.iamf_sequence.specs.declared.parts.Parts.{Parts}
+use Rattle.iamf_sequence.specs.SequenceValue.{SequenceValue}
 use Rattle.iamf_sequence.specs.SequenceView.{AreViews, views_of, IsSequence}
 use Rattle.iamf_sequence.specs.Encoding.{context, IsViewOf, AreViewsOf}
 use Rattle.iamf_sequence.proofs.Lasting.{lasting}
@@ -32,11 +33,11 @@ length_of : (l : List Entry) (c : CodecConfigFields) → codec_configs (values_o
 unfolding frame_length
 length_of l c is = ap first_length (ap codecs (sym (roles_of_values l)) ∙ codecs_are (values_of l) ∙ ap (map role_of_codec) is) ∙ length_is c.codec_config_id c.num_samples_per_frame c.coding
 
-context_is : (p : Parts) (l : List Entry) → IsSequence p l → context_after l ≡ context p.codec.frame_length p.definitions
+context_is : (p : Parts) (v : SequenceValue) → IsSequence p v → context_after v.entries ≡ context p.codec.frame_length p.definitions
 unfolding context_of
-context_is p l s =
-    let n : frame_length (roles l) ≡ p.codec.frame_length = length_of l s.codec.0 s.codec.1 ∙ sym s.codec.2.frame_length in
-    ap (λ (k : ℕ). context k (definitions (roles l))) n ∙ ap (context p.codec.frame_length) (sym s.definitions_are)
+context_is p v s =
+    let n : frame_length (roles v.entries) ≡ p.codec.frame_length = length_of v.entries s.codec.0 s.codec.1 ∙ sym s.codec.2.frame_length in
+    ap (λ (k : ℕ). context k (definitions (roles v.entries))) n ∙ ap (context p.codec.frame_length) (sym s.definitions_are)
 
 -- ---- each view
 
@@ -54,10 +55,10 @@ views_after n ds past bytes (e ∷ es) (p ∷ ps) are keeps h is views =
     (record { head = sym views.0; bytes = h.0; are = parts.0; spells = subst (λ (b : List ℕ). Spells (context n ds) e.value b h.0) (sym views.1) spells }, others)
 
 -- the views are these
-pub views_are : (p : Parts) (ps : List Placed) → ps ≡ p.obus.items → AreBytes p.buffer.now → (l : List Entry) → IsSequence p l → AreViewsOf p.codec.frame_length p.definitions ps (values_of l)
-views_are p ps is are l s =
-    let views = views_after p.codec.frame_length p.definitions [] p.buffer.now l p.obus.items are keeps-nil s.admitted (context_is p l s) s.views in
-    subst (λ (qs : List Placed). AreViewsOf p.codec.frame_length p.definitions qs (values_of l)) (sym is) views
+pub views_are : (p : Parts) (ps : List Placed) (v : SequenceValue) → ps ≡ p.obus.items → AreBytes v.bytes → IsSequence p v → AreViewsOf p.codec.frame_length p.definitions ps (values_of v.entries)
+views_are p ps v is are s =
+    let views = views_after p.codec.frame_length p.definitions [] v.bytes v.entries p.obus.items are keeps-nil s.read.admitted (context_is p v s) s.views in
+    subst (λ (qs : List Placed). AreViewsOf p.codec.frame_length p.definitions qs (values_of v.entries)) (sym is) views
 
 -- ---- bytes with the bits that were put
 

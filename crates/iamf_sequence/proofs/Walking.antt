@@ -1,13 +1,13 @@
 -- What a reader answers of the next OBU.
-use Rattle.std.proofs.Common.{◌≡◌, ℕ, true, false, List, [], ◌∷◌, ◌++◌, refl, sym, ap, ap₂, subst, ◌∙◌}
-use Rattle.std.specs.Prelude.{Some, None, Err}
+use Rattle.std.proofs.Common.{◌≡◌, ℕ, Bool, true, false, List, [], ◌∷◌, ◌++◌, refl, sym, ap, ap₂, subst, ◌∙◌}
+use Rattle.std.specs.Prelude.{Option, Some, None, Err, unwrap_or, if◌then◌else◌}
 use Rattle.spec_sequence.specs.Content.{Kind, kind_of, Content, PayloadOf}
 use Rattle.spec_sequence.specs.Content as content
 use Rattle.spec_sequence.specs.Value.{ObuValue}
 use Rattle.spec_sequence.specs.Parts.{roles_of, sequence_headers, codec_configs}
 use Rattle.spec_sequence.specs.Role.{Role, role_in, role}
 use Rattle.spec_sequence.specs.Descriptors.{context_of}
-use Rattle.spec_sequence.specs.Units.{is_data, open_unit}
+use Rattle.spec_sequence.specs.Units.{is_data, open_unit, unit_after}
 use Rattle.spec_sequence.specs.Rules.{fault_before, fault_after}
 use Rattle.spec_sequence.specs.Reading.{Entry, roles, values_of, context_after, is_copy, early_fault, OfPayload, Late}
 use Rattle.spec_sequence.proofs.Roles.{roles_of_values}
@@ -20,7 +20,7 @@ use Rattle.iamf_sequence.specs.declared.rules.Rules.{Rules}
 use Rattle.iamf_sequence.specs.ContentView.{ReadsKind, Holds, IsWhole, kind_in}
 use Rattle.iamf_sequence.specs.declared.content.Content as specs
 use Rattle.iamf_sequence.specs.RulesView.{StandsFor, Tests, number_of}
-use Rattle.iamf_sequence.specs.ReaderView.{IsOfUnit, AddsTo, IsTaken, Fails}
+use Rattle.iamf_sequence.specs.ReaderView.{IsOfUnit, AddsTo, IsTaken, Fails, number_after}
 use Rattle.iamf_sequence.specs.Numbers.{unit_between, number_in}
 use Rattle.iamf_sequence.proofs.Counting.{of_unit}
 use Rattle.iamf_sequence.proofs.Taking.{kind_is, number_is, first_header, first_codec}
@@ -45,9 +45,9 @@ entry view c tail = record { value = record { head = head_of view.head; content 
 -- the unit between those that are open before and after it
 pub unit_is : (old new : Rules) (l : List Role) (o : Role) (k : Kind) (before after unit : ℕ) → StandsFor old l → StandsFor new (l ++ o ∷ []) → fault_after l o ≡ None → kind_of_role o ≡ k
     → before ≡ number_of old → after ≡ number_of new → unit ≡ unit_between k before after → is_data o ≡ true → IsOfUnit unit l o
-unit_is old new l o k before after unit is then late kinds first last between has =
+unit_is old new l o k before after unit is last_is late kinds first last between has =
     let numbers : unit_between (kind_of_role o) (open_unit l) (open_unit (l ++ o ∷ [])) ≡ unit =
-    ap₂ (unit_between (kind_of_role o)) (sym (first ∙ is.stands.unit.number)) (sym (last ∙ then.stands.unit.number)) ∙ ap (λ (j : Kind). unit_between j before after) kinds ∙ sym between in
+    ap₂ (unit_between (kind_of_role o)) (sym (first ∙ is.stands.unit.number)) (sym (last ∙ last_is.stands.unit.number)) ∙ ap (λ (j : Kind). unit_between j before after) kinds ∙ sym between in
     subst (λ (n : ℕ). IsOfUnit n l o) numbers (of_unit l o is.stands.admitted late has)
 
 -- ---- what is kept of a list looks at its values alone
@@ -63,28 +63,35 @@ one_codec past o late is = first_codec (values_of past) o (ap (λ (l : List Role
 
 -- ---- it is taken in
 
-pub taken : (past : List Entry) (view : ObuView) (said : specs.Content) (c : Content) (tail : List ℕ) (unit : ℕ) {r : Rules} → StandsFor r (roles past) → is_copy (head_of view.head) ≡ false
+-- the number that an OBU has is that of its unit
+held : (b : Bool) (n : ℕ) (unit : Option ℕ) → unit ≡ (if b then Some n else None) → b ≡ true → unwrap_or unit 0 ≡ n
+held true n unit e has = ap (λ (u : Option ℕ). unwrap_or u 0) e
+held false n unit e has = absurd cc
+
+pub taken : (past : List Entry) (view : ObuView) (said : specs.Content) (c : Content) (tail : List ℕ) (number : Option ℕ) (unit : ℕ) {r : Rules} → StandsFor r (roles past) → is_copy (head_of view.head) ≡ false
     → PayloadOf (context_after past) view.head.kind c tail view.payload.now → early_fault past (head_of view.head) view.payload.now ≡ None → fault_before (roles past) (kind_of view.head.kind) ≡ None
-    → fault_after (roles past) (role_in (head_of view.head) c tail) ≡ None → (is_data (role_in (head_of view.head) c tail) ≡ true → IsOfUnit unit (roles past) (role_in (head_of view.head) c tail))
+    → fault_after (roles past) (role_in (head_of view.head) c tail) ≡ None → number ≡ number_in (kind_of view.head.kind) unit
+    → (is_data (role_in (head_of view.head) c tail) ≡ true → IsOfUnit unit (roles past) (role_in (head_of view.head) c tail))
     → kind_in said ≡ kind_of view.head.kind → Holds said view.head.trim view.payload.now c tail → IsWhole (context_of (roles past)) said
-    → IsTaken past view (Some (record { content = said; unit = unit })) (entry view c tail)
-taken past view said c tail unit is copy payload early before late of_unit kind holds whole =
+    → IsTaken past view (record { content = Some said; unit = number }) (entry view c tail)
+taken past view said c tail number unit is copy payload early before late numbered of_unit kind holds whole =
     let o : ObuValue = (entry view c tail).value in
     let kinds = kind_is (context_of (roles past)) (head_of view.head) c tail view.payload.now copy payload.says in
     let values : roles_of (values_of past) ≡ roles past = roles_of_values past in
+    let numbers : number ≡ number_after (roles past) (role o) = numbered ∙ ap (λ (k : Kind). number_in k unit) (sym kinds) ∙ number_is (roles past) (role o) unit (λ has. (of_unit has).number) in
     record {
       head = refl;
       payload = refl;
       payload_is = payload;
       admissible = record { early = early; late = late };
-      unit = ap (λ (k : Kind). number_in k unit) (kind ∙ sym kinds) ∙ number_is (roles past) (role o) unit (λ has. (of_unit has).number);
+      unit = numbers;
       says = record {
         head = refl;
         plain = copy;
         holds = holds;
         whole = (context_of (roles past), whole);
         kind = kind;
-        adds = adds_to past o unit of_unit;
+        adds = adds_to past o (unwrap_or number 0) (λ has. let of = of_unit has in subst (λ n. IsOfUnit n (roles past) (role o)) (of.number ∙ sym (held (is_data (role o)) (unit_after (roles past) (role o)) number numbers has)) of);
         admitted = rw values is.stands.admitted;
         faultless = rw values (record { early = ap (fault_before (roles past)) kinds ∙ before; late = late });
         first_header = λ k. one_header past (kind_of view.head.kind) before (sym kind ∙ k);

@@ -3,26 +3,39 @@ use Rattle.std.specs.Prelude.{◌≡◌, ℕ, ◌≤◌, List, [], ◌∷◌, ma
 use Rattle.std.specs.List.{All}
 use Rattle.spec_descriptors.specs.SequenceHeader.{SequenceHeaderFields}
 use Rattle.spec_descriptors.specs.CodecConfig.{CodecConfigFields}
+use Rattle.spec_descriptors.specs.AudioElement.{AudioElementFields}
+use Rattle.spec_descriptors.specs.MixPresentation.{MixPresentationFields}
 use Rattle.spec_sequence.specs.Value.{ObuValue}
 use Rattle.spec_sequence.specs.Units.{unit_count}
-use Rattle.spec_sequence.specs.Parts.{roles_of, obus_of, sequence_headers, codec_configs, audio_elements, mix_presentations, temporal_units}
+use Rattle.spec_sequence.specs.Parts.{roles_of, obus_of, header_in, codec_in, element_in, mix_in, temporal_units}
 use Rattle.obu_descriptors.specs.HeaderView.{view_header}
 use Rattle.obu_descriptors.specs.CodecView.{StandsForCodec}
 use Rattle.obu_descriptors.specs.ElementView.{view_element}
 use Rattle.obu_descriptors.specs.declared.sequence_header.SequenceHeader.{SequenceHeader}
 use Rattle.obu_descriptors.specs.declared.codec_config.CodecConfig.{CodecConfig}
+use Rattle.obu_descriptors.specs.declared.audio_element.AudioElement.{AudioElement}
+use Rattle.obu_mix.specs.declared.mix_presentation.MixPresentation.{MixPresentation}
 use Rattle.obu_mix.specs.MixView.{view_mix}
 use Rattle.iamf_sequence.specs.declared.kept.Kept.{Kept}
 use Rattle.iamf_sequence.specs.ContentView.{IsElement}
+use Rattle.iamf_sequence.specs.Tails.{with_tails}
 use Rattle.iamf_sequence.specs.UnitView.{view_unit, HasTrim}
 
-abbrev pub AreHeaders : Option SequenceHeader → List SequenceHeaderFields → Type 0
-AreHeaders None hs = hs ≡ []
-AreHeaders (Some h) hs = hs ≡ view_header h ∷ []
+-- each with its tail
 
-abbrev pub AreCodecs : Option CodecConfig → List CodecConfigFields → Type 0
+abbrev pub AreHeaders : Option SequenceHeader → List (SequenceHeaderFields × List ℕ) → Type 0
+AreHeaders None hs = hs ≡ []
+AreHeaders (Some h) hs = hs ≡ (view_header h, h.tail.now) ∷ []
+
+abbrev pub AreCodecs : Option CodecConfig → List (CodecConfigFields × List ℕ) → Type 0
 AreCodecs None cs = cs ≡ []
-AreCodecs (Some r) cs = (c : CodecConfigFields) × (cs ≡ c ∷ []) × StandsForCodec r c
+AreCodecs (Some r) cs = (c : CodecConfigFields) × (cs ≡ (c, r.tail.now) ∷ []) × StandsForCodec r c
+
+abbrev pub element_and_tail : AudioElement → AudioElementFields × List ℕ
+element_and_tail e = (view_element e, e.tail.now)
+
+abbrev pub mix_and_tail : MixPresentation → MixPresentationFields × List ℕ
+mix_and_tail m = (view_mix m, m.tail.now)
 
 -- no OBU is of a unit after the last one
 abbrev pub HasNoLater : List ObuValue → Type 0
@@ -30,11 +43,11 @@ HasNoLater s = (u : ℕ) → unit_count (roles_of s) ≤ u → obus_of u s ≡ [
 
 -- The descriptors of a list of OBUs in their order, and its temporal units with their frames and blocks.
 pub record Keeps (k : Kept) (s : List ObuValue) : Type 0 where
-  pub header : AreHeaders k.header (sequence_headers s)
-  pub codec : AreCodecs k.codec (codec_configs s)
-  pub elements : map view_element k.elements.items ≡ audio_elements s
+  pub header : AreHeaders k.header (with_tails header_in s)
+  pub codec : AreCodecs k.codec (with_tails codec_in s)
+  pub elements : map element_and_tail k.elements.items ≡ with_tails element_in s
   pub valid : All IsElement k.elements.items
-  pub mixes : map view_mix k.mixes.items ≡ mix_presentations s
+  pub mixes : map mix_and_tail k.mixes.items ≡ with_tails mix_in s
   pub units : map view_unit k.units.items ≡ temporal_units s
   pub trims : All HasTrim k.units.items
   pub later : HasNoLater s

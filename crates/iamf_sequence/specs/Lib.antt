@@ -3,10 +3,13 @@ pub mod Defining
 pub mod RulesView
 pub mod UnitView
 pub mod Originals
+pub mod Tails
 pub mod KeptView
 pub mod SortedUnits
 pub mod Numbers
 pub mod Places
+pub mod SequenceValue
+pub mod OneList
 pub mod ReaderView
 pub mod SequenceView
 pub mod DraftView

@@ -13,3 +13,7 @@ number_in ParameterBlock unit = Some unit
 number_in TemporalDelimiter unit = Some unit
 number_in AudioFrame unit = Some unit
 number_in _ unit = None
+
+-- the number of an OBU of the kind, of the units that are open before and after it
+abbrev pub number_between : Kind → ℕ → ℕ → Option ℕ
+number_between kind before after = number_in kind (unit_between kind before after)

@@ -1,11 +1,11 @@
 -- What one more OBU is to those that were read before it.
-use Rattle.std.specs.Prelude.{◌≡◌, ◌-◌, ◌<◌, ◌≤◌, ◌+◌, ℕ, if◌then◌else◌, true, false, List, [], ◌∷◌, ◌++◌, take, drop, length, Option, Some, None, Result, Ok, Err}
+use Rattle.std.specs.Prelude.{◌≡◌, ◌-◌, ◌<◌, ◌≤◌, ◌+◌, ◌^◌, ℕ, if◌then◌else◌, true, false, List, [], ◌∷◌, ◌++◌, take, drop, unwrap_or, Option, Some, None, Result, Ok, Err}
+use Rattle.spec_bits.specs.Bits.{AreBytes}
 use Rattle.spec_obu.specs.Header.{Header}
 use Rattle.spec_sequence.specs.Value.{ObuValue}
 use Rattle.spec_sequence.specs.Content.{Context, SequenceHeader, CodecConfig, kind_of, PayloadOf}
 use Rattle.spec_sequence.specs.Role.{Role, role}
 use Rattle.spec_sequence.specs.Units.{is_data, unit_after, unit_count}
-use Rattle.spec_sequence.specs.Rules.{end_fault}
 use Rattle.spec_sequence.specs.Parts.{roles_of, sequence_headers, codec_configs}
 use Rattle.spec_sequence.specs.Reading.{Entry, values_of, roles, context_after, is_copy, IsAdmissible, HasFault, Admitted}
 use Rattle.obu_header.specs.declared.view.ObuView.{ObuView}
@@ -15,15 +15,11 @@ use Rattle.iamf_admission.specs.declared.admission.AdmitError.TheVariants as adm
 use Rattle.iamf_admission.specs.Admitted.{HasNoFault, IsAdmitted}
 use Rattle.iamf_sequence.specs.declared.content.Content.{Content}
 use Rattle.iamf_sequence.specs.declared.reader.Reader.{Reader}
-use Rattle.iamf_sequence.specs.declared.reader.Said.{Said}
-use Rattle.iamf_sequence.specs.declared.reader.Next.{Next}
-use Rattle.iamf_sequence.specs.declared.refusal.DecodeError.{DecodeError}
-use Rattle.iamf_sequence.specs.declared.refusal.DecodeError.TheVariants as errors
+use Rattle.iamf_sequence.specs.declared.reader.Admitted.{Admitted as AdmittedObu}
 use Rattle.iamf_sequence.specs.ContentView.{Holds, IsWhole, kind_in}
-use Rattle.iamf_sequence.specs.Numbers.{number_in}
-use Rattle.iamf_sequence.specs.RulesView.{StandsFor}
+use Rattle.iamf_sequence.specs.RulesView.{StandsFor, number_of}
 use Rattle.iamf_sequence.specs.Originals.{AreOriginals}
-use Rattle.iamf_sequence.specs.Places.{IsRefused}
+use Rattle.iamf_sequence.specs.SequenceValue.{IsRead}
 
 -- ---- an OBU that is admitted
 
@@ -49,28 +45,23 @@ pub record IsSaid (content : Content) (unit : ℕ) (view : ObuView) (s : List Ob
   pub first_header : kind_in content ≡ SequenceHeader → sequence_headers s ≡ []
   pub first_codec : kind_in content ≡ CodecConfig → codec_configs s ≡ []
 
--- a redundant copy says nothing
-abbrev pub Says : Option Said → ObuView → List ObuValue → ObuValue → Type 0
-Says None view s o = o.head.redundant ≡ true
-Says (Some said) view s o = IsSaid said.content said.unit view s o
-
--- the number of the OBU's unit, where it has one
-abbrev pub number_said : Option Said → Option ℕ
-number_said None = None
-number_said (Some said) = number_in (kind_in said.content) said.unit
+-- what an OBU says, where its unit has this number; a redundant copy says nothing
+abbrev pub Says : Option Content → Option ℕ → ObuView → List ObuValue → ObuValue → Type 0
+Says None unit view s o = o.head.redundant ≡ true
+Says (Some content) unit view s o = IsSaid content (unwrap_or unit 0) view s o
 
 -- the number of the unit of an OBU after a list, where it is a data OBU
 abbrev pub number_after : List Role → Role → Option ℕ
 number_after l o = if is_data o then Some (unit_after l o) else None
 
 -- The OBU is admitted: this is its value after the list.
-pub record IsTaken (past : List Entry) (view : ObuView) (said : Option Said) (e : Entry) : Type 0 where
+pub record IsTaken (past : List Entry) (view : ObuView) (obu : AdmittedObu) (e : Entry) : Type 0 where
   pub head : e.value.head ≡ head_of view.head
   pub payload : e.payload ≡ view.payload.now
   pub payload_is : PayloadOf (context_after past) e.value.head.kind e.value.content e.value.tail e.payload
   pub admissible : IsAdmissible past e
-  pub unit : number_said said ≡ number_after (roles past) (role e.value)
-  pub says : Says said view (values_of past) e.value
+  pub unit : obu.unit ≡ number_after (roles past) (role e.value)
+  pub says : Says obu.content obu.unit view (values_of past) e.value
 
 -- ---- one OBU after another
 
@@ -85,8 +76,8 @@ Fails (admit.Fault f) past view = HasFault past (head_of view.head) view.payload
 Fails (admit.Memory e) past view = Unit {0}
 
 -- What a reader that stood for the past answers of the next OBU, and what it stands for then.
-abbrev pub Steps : Reader → Result (Option Said) AdmitError → List Entry → ObuView → Type 0
-Steps new (Ok said) past view = (e : Entry) × IsTaken past view said e × IsReader new (past ++ e ∷ [])
+abbrev pub Steps : Reader → Result AdmittedObu AdmitError → List Entry → ObuView → Type 0
+Steps new (Ok obu) past view = (e : Entry) × IsTaken past view obu e × IsReader new (past ++ e ∷ [])
 Steps new (Err e) past view = Fails e past view
 
 -- ---- in bytes
@@ -97,26 +88,22 @@ pub record HasRead (bytes : List ℕ) (at : ℕ) (r : Reader) (l : List Entry) :
   pub reader : IsReader r l
 
 -- The bytes at the place are a spelling of the OBU, which is admitted after the list.
-pub record IsNext (bytes : List ℕ) (at : ℕ) (next : Next) (l : List Entry) (e : Entry) : Type 0 where
-  pub place : next.view.at ≡ at
-  pub onward : at < next.view.end
-  pub header : Header (head_of next.view.head) next.view.payload.now (take (next.view.end - at) (drop at bytes))
-  pub taken : IsTaken l next.view next.said e
+pub record IsNext (bytes : List ℕ) (at : ℕ) (view : ObuView) (obu : AdmittedObu) (l : List Entry) (e : Entry) : Type 0 where
+  pub place : view.at ≡ at
+  pub onward : at < view.end
+  pub header : Header (head_of view.head) view.payload.now (take (view.end - at) (drop at bytes))
+  pub taken : IsTaken l view obu e
 
--- what a reader that stood for the list answers of the OBU at the place, and what it stands for then
-abbrev pub Reads : List ℕ → ℕ → Reader → List Entry → Result Next DecodeError → Type 0
-Reads bytes at new l (Ok next) = (e : Entry) × IsNext bytes at next l e × HasRead bytes next.view.end new (l ++ e ∷ [])
-Reads bytes at new l (Err e) = IsRefused bytes e
+-- One more OBU of the bytes was admitted, after which the reader stands; there are not too many units to be counted.
+pub record IsOneMore (bytes : List ℕ) (at : ℕ) (r : Reader) (view : ObuView) (obu : AdmittedObu) (l : List Entry) (e : Entry) : Type 0 where
+  pub are : AreBytes bytes
+  pub before : Admitted (take at bytes) l
+  pub next : IsNext bytes at view obu l e
+  pub after : HasRead bytes view.end r (l ++ e ∷ [])
+  pub few : unit_count (roles l) ≤ 2 ^ 41
 
--- ---- all OBUs of bytes
-
--- One more OBU of the bytes is taken in up to its end, up to which this is as it should be, or the bytes are refused.
-abbrev pub TakesNext : {X : Type 0} → List ℕ → (ℕ → X → List Entry → Type 0) → X → Result ℕ DecodeError → Type 0
-TakesNext bytes is x (Ok end) = (l : List Entry) × is end x l
-TakesNext bytes is x (Err e) = IsRefused bytes e
-
--- What is made of all OBUs of the bytes is as it should be, or the bytes are refused for a fault of their end.
-abbrev pub Finishes : {X : Type 0} → List ℕ → List Entry → (X → Type 0) → Result X DecodeError → Type 0
-Finishes bytes l is (Ok x) = is x
-Finishes bytes l is (Err (errors.Refused r)) = (r.at ≡ length bytes) × (end_fault (roles l) ≡ Some r.fault)
-Finishes bytes l is (Err (errors.Memory e)) = Unit {0}
+-- The bytes are a sequence of these OBUs, for which the reader stands.
+pub record HasWalked (bytes : List ℕ) (r : Reader) (l : List Entry) : Type 0 where
+  pub read : IsRead bytes l
+  pub reader : IsReader r l
+  pub few : number_of r.rules ≤ 2 ^ 40

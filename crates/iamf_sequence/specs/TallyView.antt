@@ -8,7 +8,6 @@ use Rattle.spec_sequence.specs.Value.{ObuValue}
 use Rattle.spec_sequence.specs.Role.{Role, ElementRole, role_of_codec, element_role}
 use Rattle.spec_sequence.specs.Descriptors.{elements, frame_length}
 use Rattle.spec_sequence.specs.Parts.{roles_of, sequence_headers, codec_configs, audio_elements, mix_presentations, temporal_units}
-use Rattle.spec_sequence.specs.Reading.{Entry, values_of}
 use Rattle.obu_descriptors.specs.declared.audio_element.AudioElement.{AudioElement}
 use Rattle.obu_descriptors.specs.ElementView.{view_element}
 use Rattle.obu_mix.specs.declared.mix_presentation.MixPresentation.{MixPresentation}
@@ -16,10 +15,8 @@ use Rattle.obu_mix.specs.MixView.{view_mix}
 use Rattle.iamf_sequence.specs.declared.lines.CodecLine.{CodecLine}
 use Rattle.iamf_sequence.specs.declared.lines.ProfileLine.{ProfileLine}
 use Rattle.iamf_sequence.specs.declared.tally.Lines.{Lines}
-use Rattle.iamf_sequence.specs.declared.tally.Tally.{Tally}
 use Rattle.iamf_sequence.specs.CountView.{IsCount}
 use Rattle.iamf_sequence.specs.KeptView.{HasNoLater}
-use Rattle.iamf_sequence.specs.ReaderView.{HasRead}
 use Rattle.iamf_sequence.specs.Summing.{IsProfileLine, IsCodecLine, AreElementLines, AreMixLines, AreTotals, Knows}
 
 abbrev pub IsProfile : Option ProfileLine → List SequenceHeaderFields → Type 0
@@ -39,11 +36,6 @@ pub record AreLines (t : Lines) (s : List ObuValue) : Type 0 where
   pub mixes : AreMixLines (roles_of s) t.mixes.items (mix_presentations s)
   pub count : IsCount t.count (frame_length (roles_of s)) (temporal_units s)
   pub later : HasNoLater s
-
--- Up to a place the bytes are spellings of these OBUs, for which the tally stands.
-pub record IsTally (bytes : List ℕ) (at : ℕ) (t : Tally) (l : List Entry) : Type 0 where
-  pub read : HasRead bytes at t.reader l
-  pub lines : AreLines t.lines (values_of l)
 
 -- ---- one more line
 

@@ -1,23 +1,25 @@
 //! Reading a sequence.
 ghost use Rattle.std.specs.Prelude.{◌≡◌, ◌<◌, ◌≤◌, ◌^◌, ℕ, List, length, map, sum, slice_index_or, IfOk, IfErr, OnOk};
 ghost use Rattle.spec_sequence.specs.Parts.{UnitValue};
-ghost use Rattle.spec_sequence.specs.Reading.{Entry};
+ghost use Rattle.spec_sequence.specs.Reading.{Entry, roles};
 ghost use Rattle.iamf_sequence.specs.declared.unit.Unit as temporal;
 ghost use Rattle.iamf_sequence.specs.UnitView.{IsUnit, AreUnits};
 ghost use Rattle.iamf_sequence.specs.SortedUnits.{SortsTo, kept_of};
-ghost use Rattle.iamf_sequence.specs.RulesView.{number_of};
+ghost use Rattle.iamf_sequence.specs.RulesView.{StandsFor, number_of};
 ghost use Rattle.iamf_sequence.specs.Places.{IsRefused};
+ghost use Rattle.iamf_sequence.specs.SequenceValue.{sequence, IsRead};
 ghost use Rattle.iamf_sequence.specs.SequenceView.{IsSequence};
-ghost use Rattle.iamf_sequence.specs.DraftView.{IsDraft};
-ghost use Rattle.iamf_sequence.specs.ReaderView.{Finishes};
+ghost use Rattle.iamf_sequence.specs.DraftView.{IsPlaced};
 
 use crate::draft::Draft;
 use crate::parts::Parts;
-use crate::refusal::{DecodeError, refused};
+use crate::reading::Reading;
+use crate::refusal::DecodeError;
+use crate::rules::Rules;
 use crate::sequence::Sequence;
 use crate::unit::Unit;
 use crate::unit_count::kept_samples;
-use spec_sequence::Fault;
+use crate::walk::walk;
 use std::alloc::{AllocError, Global};
 
 /// Reads the bytes, of which there are at most 2^40, as a sequence. Its views lie in the bytes.
@@ -26,51 +28,42 @@ use std::alloc::{AllocError, Global};
 /// number of the bytes where it is a fault of their end. `Memory` comes only where memory runs out.
 pub fn decode<'a>(alloc: Global, buffer: &'a [u8]) -> Result<Sequence<'a>, DecodeError>
     requires { length buffer.now ≤ 2 ^ 40 }
-    ensures bytes { IfOk result (λ s. s.buffer.now ≡ buffer.now) }
+    ensures bytes { IfOk result (λ s. s.bytes ≡ buffer.now) }
     // They are spellings of these OBUs one after the other, which are a sequence.
-    ensures reads { IfOk result (λ s. (l : List Entry) × IsSequence s l) }
+    ensures reads { IfOk result (λ s. IsRead s.bytes s.entries) }
     ensures refused { IfErr result (λ e. IsRefused buffer.now e) }
 {
     let mut draft = Draft::new(alloc);
-    let mut at = 0;
-    while at < buffer.len() {
-        match draft.take_next(alloc, buffer, at) {
-            Ok(end) => at = end,
-            Err(error) => return Err(error),
-        }
-    }
-    match finish(draft, buffer) {
-        Ok(parts) => Ok(Sequence { parts }),
-        Err(error) => Err(error),
+    let reader = match walk(alloc, buffer, &mut draft) {
+        Ok(reader) => reader,
+        Err(error) => return Err(error),
+    };
+    match finish(draft, reader.rules) {
+        Ok(parts) => Ok(Sequence {
+            reading: Reading::new(buffer),
+            parts,
+        }),
+        Err(error) => Err(DecodeError::Memory(error)),
     }
 }
 
-/// The parts of the sequence of all OBUs of a buffer, or the fault of its end.
-fn finish<'a>(draft: Draft<'a>, buffer: &'a [u8]) -> Result<Parts<'a>, DecodeError>
-    requires { number_of draft.reader.rules ≤ 2 ^ 40 }
-    ensures { (l : List Entry) → IsDraft buffer.now (length buffer.now) draft.entry l → Finishes buffer.now l (λ p. IsSequence p l × (p.buffer.now ≡ buffer.now)) result }
+/// The parts of the sequence that was drafted, with the rules that admitted it. An `Err` comes only where memory runs out.
+fn finish<'a>(draft: Draft<'a>, rules: Rules) -> Result<Parts<'a>, AllocError>
+    requires { (bytes : List ℕ) × (l : List Entry) × IsRead bytes l × StandsFor rules (roles l) × IsPlaced draft bytes (length bytes) l }
+    ensures { IfOk result (λ p. (bytes : List ℕ) (l : List Entry) → IsRead bytes l → StandsFor rules (roles l) → number_of rules ≤ 2 ^ 40 → IsPlaced draft.entry bytes (length bytes) l
+        → IsSequence p (sequence bytes l)) }
 {
-    let Draft { reader, kept, obus } = draft;
-    let rules = reader.rules;
-    if let Some(fault) = rules.end_fault() {
-        return Err(refused(buffer.len(), fault));
-    }
-    let header = match kept.header {
-        Some(header) => header,
-        None => return Err(refused(buffer.len(), Fault::Incomplete)),
+    let Draft { kept, obus } = draft;
+    let Some(header) = kept.header else {
+        unreachable!()
     };
-    let codec = match kept.codec {
-        Some(codec) => codec,
-        None => return Err(refused(buffer.len(), Fault::Incomplete)),
+    let Some(codec) = kept.codec else {
+        unreachable!()
     };
     let mut units = kept.units;
-    match sort_units(units.as_mut_slice()) {
-        Ok(()) => {}
-        Err(error) => return Err(DecodeError::Memory(error)),
-    }
+    sort_units(units.as_mut_slice())?;
     let samples = kept_by(units.as_slice(), rules.frame_length());
     Ok(Parts {
-        buffer,
         obus,
         header,
         codec,

@@ -6,9 +6,8 @@ ghost use Rattle.spec_syntax.specs.Payload.{canon};
 ghost use Rattle.spec_blocks.specs.BlockFieldLists.{frame_fields};
 ghost use Rattle.spec_sequence.specs.Value.{ObuValue};
 ghost use Rattle.spec_sequence.specs.Canonical.{canonical_obu, encoded};
-ghost use Rattle.spec_sequence.specs.Reading.{Entry, values_of};
+ghost use Rattle.spec_sequence.specs.Reading.{values_of};
 ghost use Rattle.iamf_sequence.specs.ContentView.{IsWhole};
-ghost use Rattle.iamf_sequence.specs.SequenceView.{IsSequence};
 ghost use Rattle.iamf_sequence.specs.Encoding.{context, IsViewOf, AreViewsOf, IsWritten, IsMemory};
 
 use crate::content::{Content, known, read_content};
@@ -120,10 +119,10 @@ fn put_all(
 /// The canonical spellings of all OBUs of a sequence, one after the other: each number in the shortest leb128, and each
 /// reserved bit 0. An `Err` comes only where memory runs out.
 pub fn encode(alloc: Global, sequence: &Sequence<'_>) -> Result<Vec<u8>, AllocError>
-    ensures { IfOk result (λ v. (l : List Entry) → IsSequence sequence.now l → v.items ≡ encoded (values_of l)) }
+    ensures { IfOk result (λ v. v.items ≡ encoded (values_of sequence.now.entries)) }
 {
     let parts = &sequence.parts;
-    let _bytes = known(parts.buffer);
+    let _bytes = known(sequence.bytes());
     let mut out = Out::new(alloc);
     put_all(
         alloc,
@@ -139,16 +138,18 @@ pub fn encode(alloc: Global, sequence: &Sequence<'_>) -> Result<Vec<u8>, AllocEr
 
 /// The canonical spelling of OBU `i` of a sequence alone. An `Err` comes only where memory runs out.
 pub fn encode_obu(alloc: Global, sequence: &Sequence<'_>, i: usize) -> Result<Vec<u8>, AllocError>
-    requires { i < length sequence.now.obus.items }
-    ensures { IfOk result (λ v. (l : List Entry) → IsSequence sequence.now l → option_map canonical_obu (slice_get (values_of l) i) ≡ Some v.items) }
+    requires { i < length sequence.now.entries }
+    ensures { IfOk result (λ v. option_map canonical_obu (slice_get (values_of sequence.now.entries) i) ≡ Some v.items) }
 {
     let parts = &sequence.parts;
-    let _bytes = known(parts.buffer);
+    let _bytes = known(sequence.bytes());
+    let obus = parts.obus.as_slice();
+    prove!(i < obus.len());
     let mut out = Out::new(alloc);
     put_obu(
         alloc,
         &mut out,
-        &parts.obus.as_slice()[i].view,
+        &obus[i].view,
         parts.codec.frame_length,
         &parts.definitions,
     )?;

@@ -7,7 +7,6 @@ ghost use Rattle.obu_header.specs.declared.view.ObuView.{ObuView};
 ghost use Rattle.iamf_sequence.specs.UnitView.{view_unit, HasTrim, opened, change_last, with_frame, with_block};
 
 use crate::content::Content;
-use crate::reader::Said;
 use crate::unit::Unit;
 use obu_data::{FrameView, ParameterBlock};
 use obu_descriptors::{AudioElement, CodecConfig, SequenceHeader};
@@ -41,24 +40,31 @@ impl<'a> Kept<'a> {
         }
     }
 
-    /// Keeps what an OBU says: nothing, where it is a redundant copy. An `Err` comes only where memory runs out, and then
-    /// nothing is known.
-    pub(crate) fn keep_said(
+    /// Keeps what an OBU says: nothing, where it is a redundant copy. `unit` is the number of the temporal unit of a data
+    /// OBU. An `Err` comes only where memory runs out, and then nothing is known.
+    pub(crate) fn keep(
         &mut self,
         alloc: Global,
-        said: Option<Said<'a>>,
+        content: Option<Content<'a>>,
+        unit: Option<usize>,
     ) -> Result<(), AllocError>
-        ensures { OnOk result ((s : List ObuValue) (o : ObuValue) (view : ObuView) → Keeps self.old s → Says said.entry view s o → Keeps self.new (s ++ o ∷ [])) }
+        ensures { OnOk result ((s : List ObuValue) (o : ObuValue) (view : ObuView) → Keeps self.old s → Says content.entry unit view s o → Keeps self.new (s ++ o ∷ [])) }
     {
-        match said {
-            Some(said) => self.keep(alloc, said.content, said.unit),
+        match content {
+            // The number of what is no data OBU is not looked at.
+            Some(content) => self.keep_content(alloc, content, unit.unwrap_or(0)),
             None => Ok(()),
         }
     }
 
     /// Keeps what a plain OBU says; `unit` is the number of the temporal unit of a data OBU. An `Err` comes only where
     /// memory runs out, and then nothing is known. One header and one codec config are kept.
-    fn keep(&mut self, alloc: Global, content: Content<'a>, unit: usize) -> Result<(), AllocError>
+    fn keep_content(
+        &mut self,
+        alloc: Global,
+        content: Content<'a>,
+        unit: usize,
+    ) -> Result<(), AllocError>
         ensures { OnOk result ((s : List ObuValue) (o : ObuValue) (view : ObuView) → Keeps self.old s → IsSaid content.entry unit view s o → Keeps self.new (s ++ o ∷ [])) }
     {
         match content {

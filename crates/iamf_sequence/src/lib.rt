@@ -10,6 +10,7 @@ mod lines;
 mod originals;
 mod parts;
 mod reader;
+mod reading;
 mod refusal;
 mod reporting;
 mod respelling;
@@ -19,8 +20,11 @@ mod shape;
 mod summarizing;
 mod summing;
 mod tally;
+#[cfg(test)]
+mod tests;
 mod unit;
 mod unit_count;
+mod walk;
 
 pub use decoding::decode;
 pub use encoding::{encode, encode_obu};

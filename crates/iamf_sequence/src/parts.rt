@@ -14,10 +14,9 @@ pub struct Placed<'a> {
     pub(crate) unit: Option<usize>,
 }
 
-/// The parts of a sequence.
+/// What is kept of the OBUs of a sequence.
 #[derive(Drop)]
 pub struct Parts<'a> {
-    pub(crate) buffer: &'a [u8],
     pub(crate) obus: Vec<Placed<'a>>,
     pub(crate) header: SequenceHeader<'a>,
     pub(crate) codec: CodecConfig<'a>,

@@ -1,6 +1,6 @@
 //! Reading one OBU after another.
 
-ghost use Rattle.std.specs.Prelude.{◌≡◌, ◌+◌, ◌<◌, ◌≤◌, ◌^◌, true, false, ℕ, List, [], ◌∷◌, ◌++◌, length, IfOk, OnOk};
+ghost use Rattle.std.specs.Prelude.{◌≡◌, ◌+◌, ◌<◌, ◌≤◌, ◌^◌, true, false, ℕ, List, [], ◌∷◌, ◌++◌, OnOk};
 ghost use Rattle.spec_obu.specs.Header.{Header};
 ghost use Rattle.spec_sequence.specs.Content as kinds;
 ghost use Rattle.spec_sequence.specs.Reading.{Entry};
@@ -10,14 +10,13 @@ ghost use Rattle.obu_header.specs.View.{head_of};
 ghost use Rattle.iamf_sequence.specs.RulesView.{number_of};
 ghost use Rattle.iamf_sequence.specs.ContentView.{view_kind};
 ghost use Rattle.iamf_sequence.specs.Originals.{AreOriginals};
-ghost use Rattle.iamf_sequence.specs.Numbers.{unit_between};
+ghost use Rattle.iamf_sequence.specs.Numbers.{number_between};
 
 use crate::content::{Content, Kind, is_copy, kind_of};
 use crate::originals::Originals;
-use crate::refusal::{DecodeError, not_taken, refused};
 use crate::rules::Rules;
 use iamf_admission::AdmitError;
-use obu_header::{ObuView, read_obu};
+use obu_header::ObuView;
 use spec_sequence::Fault;
 use std::alloc::{AllocError, Global};
 
@@ -28,24 +27,17 @@ pub(crate) struct Reader<'a> {
     originals: Originals<'a>,
 }
 
-/// What an OBU says that is no redundant copy.
+/// An OBU that was admitted.
 #[derive(Drop)]
-pub(crate) struct Said<'a> {
-    pub(crate) content: Content<'a>,
-    /// The number of the temporal unit, of a data OBU.
-    pub(crate) unit: usize,
-}
-
-/// An OBU that was read.
-#[derive(Drop)]
-pub(crate) struct Next<'a> {
-    pub(crate) view: ObuView<'a>,
-    /// `None` of a redundant copy, which says nothing new.
-    pub(crate) said: Option<Said<'a>>,
+pub(crate) struct Admitted<'a> {
+    /// What it says; `None` of a redundant copy, which says nothing new.
+    pub(crate) content: Option<Content<'a>>,
+    /// The number of its temporal unit, where it is a data OBU.
+    pub(crate) unit: Option<usize>,
 }
 
 impl<'a> Reader<'a> {
-    ghost use Rattle.iamf_sequence.specs.ReaderView.{IsReader, Steps, HasRead, Reads};
+    ghost use Rattle.iamf_sequence.specs.ReaderView.{IsReader, Steps};
 
     /// Before the first OBU.
     pub(crate) fn new(alloc: Global) -> Reader<'a>
@@ -58,39 +50,15 @@ impl<'a> Reader<'a> {
         }
     }
 
-    /// Reads and tests the OBU at the place, up to which all bytes were read.
-    ///
-    /// `Refused` comes exactly where it has a fault after the OBUs before it, and tells the first; `Memory` comes only where
-    /// memory runs out. After an `Err` nothing is known.
-    pub(crate) fn next(
-        &mut self,
-        alloc: Global,
-        buffer: &'a [u8],
-        at: usize,
-    ) -> Result<Next<'a>, DecodeError>
-        requires more { at < length buffer.now }
-        requires number { number_of self.old.rules < 2 ^ 40 }
-        requires read { (l : List Entry) × HasRead buffer.now at self.old l }
-        ensures onward { IfOk result (λ next. at < next.view.end) }
-        ensures within { IfOk result (λ next. next.view.end ≤ length buffer.now) }
-        ensures number { OnOk result (number_of self.new.rules ≤ number_of self.old.rules + 1) }
-        ensures reads { (l : List Entry) → HasRead buffer.now at self.old l → Reads buffer.now at self.new l result }
-    {
-        let view = match read_obu(buffer, at) {
-            Ok(view) => view,
-            Err(fault) => return Err(refused(at, Fault::Header(fault))),
-        };
-        match self.step(alloc, &view) {
-            Ok(said) => Ok(Next { view, said }),
-            Err(error) => Err(not_taken(at, error)),
-        }
-    }
-
     /// Tests the next OBU and takes it in.
     ///
     /// `Fault` is its first fault, exactly where it has one after the OBUs before it; `Memory` comes only where memory runs
     /// out. After an `Err` nothing is known.
-    fn step(&mut self, alloc: Global, view: &ObuView<'a>) -> Result<Option<Said<'a>>, AdmitError>
+    pub(crate) fn take(
+        &mut self,
+        alloc: Global,
+        view: &ObuView<'a>,
+    ) -> Result<Admitted<'a>, AdmitError>
         requires number { number_of self.old.rules < 2 ^ 40 }
         requires stands { (past : List Entry) × IsReader self.old past }
         ensures number { OnOk result (number_of self.new.rules ≤ number_of self.old.rules + 1) }
@@ -100,22 +68,25 @@ impl<'a> Reader<'a> {
         if is_copy(&view.head) {
             return self.take_copy(view);
         }
-        self.take(alloc, view)
+        self.take_plain(alloc, view)
     }
 
     /// Tests a redundant copy. It adds nothing.
-    fn take_copy(&self, view: &ObuView<'a>) -> Result<Option<Said<'a>>, AdmitError>
+    fn take_copy(&self, view: &ObuView<'a>) -> Result<Admitted<'a>, AdmitError>
         ensures steps { (past : List Entry) (piece : List ℕ) → IsReader self.now past → context.Keeps past
             → Header (head_of view.now.head) view.now.payload.now piece → reading.is_copy (head_of view.now.head) ≡ true → Steps self.now result past view.now }
     {
         if self.originals.has(view) {
-            return Ok(None);
+            return Ok(Admitted {
+                content: None,
+                unit: None,
+            });
         }
         Err(AdmitError::Fault(Fault::Redundant))
     }
 
     /// Reads another OBU and tests it.
-    fn take(&mut self, alloc: Global, view: &ObuView<'a>) -> Result<Option<Said<'a>>, AdmitError>
+    fn take_plain(&mut self, alloc: Global, view: &ObuView<'a>) -> Result<Admitted<'a>, AdmitError>
         requires number { number_of self.old.rules < 2 ^ 40 }
         requires stands { (past : List Entry) × IsReader self.old past }
         ensures number { OnOk result (number_of self.new.rules ≤ number_of self.old.rules + 1) }
@@ -140,7 +111,10 @@ impl<'a> Reader<'a> {
             Ok(()) => {}
             Err(error) => return Err(AdmitError::Memory(error)),
         }
-        Ok(Some(Said { content, unit }))
+        Ok(Admitted {
+            content: Some(content),
+            unit,
+        })
     }
 }
 
@@ -161,13 +135,14 @@ fn add_original<'a>(
     originals.add(view)
 }
 
-/// The unit of a data OBU of the kind, between these open units.
-fn unit_of(kind: Kind, before: usize, after: usize) -> usize
-    ensures { result ≡ unit_between (view_kind kind) before after }
+/// The unit of an OBU of the kind, of the units that are open before and after it: `None` where it is no data OBU.
+fn unit_of(kind: Kind, before: usize, after: usize) -> Option<usize>
+    ensures { result ≡ number_between (view_kind kind) before after }
 {
     match kind {
-        Kind::TemporalDelimiter => after,
-        _ => before,
+        Kind::TemporalDelimiter => Some(after),
+        Kind::ParameterBlock | Kind::AudioFrame => Some(before),
+        _ => None,
     }
 }
 

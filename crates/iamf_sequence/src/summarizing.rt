@@ -1,19 +1,17 @@
 //! Checking bytes without keeping what they say.
 
-ghost use Rattle.std.specs.Prelude.{◌≡◌, ◌≤◌, ◌^◌, ℕ, List, length, None, IfOk, IfErr};
+ghost use Rattle.std.specs.Prelude.{◌≤◌, ◌^◌, ℕ, List, length, IfOk, IfErr};
 ghost use Rattle.spec_sequence.specs.Value.{ObuValue};
-ghost use Rattle.spec_sequence.specs.Rules.{end_fault};
-ghost use Rattle.spec_sequence.specs.Reading.{Entry, Reads, values_of, roles};
-ghost use Rattle.iamf_sequence.specs.RulesView.{number_of};
+ghost use Rattle.spec_sequence.specs.Reading.{Entry, Reads, values_of};
 ghost use Rattle.iamf_sequence.specs.Places.{IsRefused};
 ghost use Rattle.iamf_sequence.specs.Summing.{IsSummary};
-ghost use Rattle.iamf_sequence.specs.ReaderView.{Finishes};
-ghost use Rattle.iamf_sequence.specs.TallyView.{IsTally};
+ghost use Rattle.iamf_sequence.specs.SequenceValue.{IsRead};
+ghost use Rattle.iamf_sequence.specs.TallyView.{AreLines};
 
 use crate::lines::Summary;
-use crate::refusal::{DecodeError, refused};
-use crate::tally::Tally;
-use spec_sequence::Fault;
+use crate::refusal::DecodeError;
+use crate::tally::Lines;
+use crate::walk::walk;
 use std::alloc::Global;
 
 /// Reads the bytes, of which there are at most 2^40, as a sequence, and answers what the report on it prints: the same as
@@ -26,40 +24,30 @@ pub fn summarize(alloc: Global, buffer: &[u8]) -> Result<Summary, DecodeError>
     ensures summary { IfOk result (λ y. (s : List ObuValue) × Reads buffer.now s × IsSummary y s) }
     ensures refused { IfErr result (λ e. IsRefused buffer.now e) }
 {
-    let mut tally = Tally::new(alloc);
-    let mut at = 0;
-    while at < buffer.len() {
-        match tally.take_next(alloc, buffer, at) {
-            Ok(end) => at = end,
-            Err(error) => return Err(error),
-        }
+    let mut lines = Lines::new(alloc);
+    match walk(alloc, buffer, &mut lines) {
+        Ok(_) => Ok(finish(lines)),
+        Err(error) => Err(error),
     }
-    finish(tally, buffer.len())
 }
 
-/// The summary of all OBUs of bytes that end at the place, or the fault of their end.
-fn finish(tally: Tally<'_>, end: usize) -> Result<Summary, DecodeError>
-    requires { number_of tally.reader.rules ≤ 2 ^ 40 }
-    ensures { (bytes : List ℕ) (l : List Entry) → end ≡ length bytes → IsTally bytes end tally.entry l → Finishes bytes l (λ y. (end_fault (roles l) ≡ None) × IsSummary y (values_of l)) result }
+/// The summary of a sequence by all lines of its report.
+fn finish(lines: Lines) -> Summary
+    requires { (bytes : List ℕ) × (l : List Entry) × IsRead bytes l × AreLines lines (values_of l) }
+    ensures { (bytes : List ℕ) (l : List Entry) → IsRead bytes l → AreLines lines (values_of l) → IsSummary result (values_of l) }
 {
-    let Tally { reader, lines } = tally;
-    if let Some(fault) = reader.rules.end_fault() {
-        return Err(refused(end, fault));
-    }
-    let profile = match lines.profile {
-        Some(profile) => profile,
-        None => return Err(refused(end, Fault::Incomplete)),
+    let Some(profile) = lines.profile else {
+        unreachable!()
     };
-    let codec = match lines.codec {
-        Some(codec) => codec,
-        None => return Err(refused(end, Fault::Incomplete)),
+    let Some(codec) = lines.codec else {
+        unreachable!()
     };
-    Ok(Summary {
+    Summary {
         profile,
         codec,
         elements: lines.elements,
         mixes: lines.mixes,
         units: lines.count.units,
         kept: lines.count.kept,
-    })
+    }
 }

@@ -7,7 +7,7 @@ ghost use Rattle.spec_descriptors.specs.AudioElement.{coded_channels_of};
 ghost use Rattle.spec_sequence.specs.Role.{ElementRole, Role, role_of_codec, element_role};
 ghost use Rattle.spec_sequence.specs.Profile.{channels_of_element, fits_sub_mixes};
 ghost use Rattle.spec_sequence.specs.Report as reports;
-ghost use Rattle.spec_sequence.specs.Reading.{Entry, values_of};
+ghost use Rattle.spec_sequence.specs.Reading.{values_of};
 ghost use Rattle.obu_descriptors.specs.HeaderView.{view_header};
 ghost use Rattle.obu_descriptors.specs.CodecView.{StandsForCodec};
 ghost use Rattle.obu_descriptors.specs.ConfigView.{view_config};
@@ -15,7 +15,6 @@ ghost use Rattle.obu_descriptors.specs.ElementView.{view_element};
 ghost use Rattle.obu_mix.specs.MixView.{view_mix};
 ghost use Rattle.iamf_sequence.specs.ContentView.{IsElement};
 ghost use Rattle.iamf_sequence.specs.Lines.{kind_name};
-ghost use Rattle.iamf_sequence.specs.SequenceView.{IsSequence};
 ghost use Rattle.iamf_sequence.specs.Summing.{IsProfileLine, IsCodecLine, IsElementLine, IsMixLine, AreElementLines, AreMixLines, AreTotals, Knows, elements_named, named, IsSummary};
 
 use crate::lines::{CodecLine, ElementKind, ElementLine, MixLine, ProfileLine, Summary};
@@ -226,7 +225,7 @@ fn mix_lines(
 
 /// What the report on a sequence prints. An `Err` comes only where memory runs out.
 pub fn summary(alloc: Global, sequence: &Sequence<'_>) -> Result<Summary, AllocError>
-    ensures { IfOk result (λ y. (l : List Entry) → IsSequence sequence.now l → IsSummary y (values_of l)) }
+    ensures { IfOk result (λ y. IsSummary y (values_of sequence.now.entries)) }
 {
     let parts = &sequence.parts;
     let primary = parts.header.primary;

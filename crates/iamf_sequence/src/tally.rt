@@ -1,24 +1,23 @@
-//! The report on a sequence of which some OBUs have been read.
+//! The lines of the report on a sequence, as far as its OBUs have been read.
 
-ghost use Rattle.std.specs.Prelude.{◌≡◌, ◌+◌, ◌<◌, ◌≤◌, ◌^◌, ℕ, List, [], ◌∷◌, ◌++◌, length, IfOk, OnOk};
+ghost use Rattle.std.specs.Prelude.{◌≡◌, ◌≤◌, ◌^◌, List, [], ◌∷◌, ◌++◌, OnOk};
 ghost use Rattle.spec_sequence.specs.Content.{Context};
 ghost use Rattle.spec_sequence.specs.Value.{ObuValue};
 ghost use Rattle.spec_sequence.specs.Parts.{roles_of};
 ghost use Rattle.spec_sequence.specs.Descriptors as descriptors;
 ghost use Rattle.spec_sequence.specs.Units.{unit_count};
-ghost use Rattle.spec_sequence.specs.Reading.{Entry};
 ghost use Rattle.obu_header.specs.declared.view.ObuView.{ObuView};
 ghost use Rattle.iamf_sequence.specs.ContentView.{IsElement, IsWhole};
-ghost use Rattle.iamf_sequence.specs.RulesView.{number_of};
-ghost use Rattle.iamf_sequence.specs.ReaderView.{IsSaid, Says, TakesNext};
+ghost use Rattle.iamf_sequence.specs.ReaderView.{IsSaid, Says};
 
 use crate::content::Content;
 use crate::lines::{CodecLine, ElementLine, MixLine, ProfileLine};
-use crate::reader::{Next, Reader, Said};
-use crate::refusal::DecodeError;
+use crate::reader::{Admitted, Reader};
 use crate::summing::{add_total, codec_line, element_line, mix_line, profile_line};
 use crate::unit_count::UnitCount;
+use crate::walk::Gather;
 use obu_descriptors::{AudioElement, coded_channels};
+use obu_header::ObuView;
 use obu_mix::MixPresentation;
 use std::alloc::{AllocError, Global};
 use std::collections::BTreeMap;
@@ -54,24 +53,31 @@ impl Lines {
 
     /// Adds what an OBU says: nothing, where it is a redundant copy. `frame_length` is that of the codec config, and 0 before
     /// it. An `Err` comes only where memory runs out, and then nothing is known.
-    pub(crate) fn add_next(&mut self, next: &Next<'_>, frame_length: u16) -> Result<(), AllocError>
-        requires { (s : List ObuValue) × (o : ObuValue) × Says next.now.said next.now.view s o }
-        ensures { OnOk result ((s : List ObuValue) (o : ObuValue) → AreLines self.old s → Says next.now.said next.now.view s o
+    fn add(&mut self, obu: &Admitted<'_>, frame_length: u16) -> Result<(), AllocError>
+        requires { (s : List ObuValue) × (o : ObuValue) × (view : ObuView) × Says obu.now.content obu.now.unit view s o }
+        ensures { OnOk result ((s : List ObuValue) (o : ObuValue) (view : ObuView) → AreLines self.old s → Says obu.now.content obu.now.unit view s o
             → frame_length ≡ descriptors.frame_length (roles_of (s ++ o ∷ [])) → unit_count (roles_of s) ≤ 2 ^ 41 → AreLines self.new (s ++ o ∷ [])) }
     {
-        match &next.said {
-            Some(said) => self.add(said, frame_length),
+        match &obu.content {
+            // The number of what is no data OBU is not looked at.
+            Some(content) => self.add_content(content, obu.unit.unwrap_or(0), frame_length),
             None => Ok(()),
         }
     }
 
-    /// Adds what a plain OBU says. An `Err` comes only where memory runs out, and then nothing is known.
-    fn add(&mut self, said: &Said<'_>, frame_length: u16) -> Result<(), AllocError>
-        requires { (context : Context) × IsWhole context said.now.content }
-        ensures { OnOk result ((s : List ObuValue) (o : ObuValue) (view : ObuView) → AreLines self.old s → IsSaid said.now.content said.now.unit view s o
+    /// Adds what a plain OBU says; `unit` is the number of the temporal unit of a data OBU. An `Err` comes only where
+    /// memory runs out, and then nothing is known.
+    fn add_content(
+        &mut self,
+        content: &Content<'_>,
+        unit: usize,
+        frame_length: u16,
+    ) -> Result<(), AllocError>
+        requires { (context : Context) × IsWhole context content.now }
+        ensures { OnOk result ((s : List ObuValue) (o : ObuValue) (view : ObuView) → AreLines self.old s → IsSaid content.now unit view s o
             → frame_length ≡ descriptors.frame_length (roles_of (s ++ o ∷ [])) → unit_count (roles_of s) ≤ 2 ^ 41 → AreLines self.new (s ++ o ∷ [])) }
     {
-        match &said.content {
+        match content {
             Content::Header(header) => {
                 self.profile = Some(profile_line(header));
                 Ok(())
@@ -83,15 +89,15 @@ impl Lines {
             Content::Element(element) => self.add_element(element),
             Content::Mix(mix) => self.add_mix(mix),
             Content::Block(_) => {
-                self.count.open(said.unit);
+                self.count.open(unit);
                 Ok(())
             }
             Content::Delimiter => {
-                self.count.open(said.unit);
+                self.count.open(unit);
                 Ok(())
             }
             Content::Frame(frame) => {
-                self.count.add_frame(said.unit, frame, frame_length);
+                self.count.add_frame(unit, frame, frame_length);
                 Ok(())
             }
             Content::Reserved => Ok(()),
@@ -127,53 +133,19 @@ impl Lines {
     }
 }
 
-/// The OBUs that were read, and the lines of the report on them.
-#[derive(Drop)]
-pub(crate) struct Tally<'a> {
-    pub(crate) reader: Reader<'a>,
-    pub(crate) lines: Lines,
-}
+impl<'a> Gather<'a> for Lines {
+    ghost use Rattle.iamf_sequence.specs.TallyView.{AreLines};
+    ghost use Rattle.spec_sequence.specs.Reading.{values_of};
 
-impl<'a> Tally<'a> {
-    ghost use Rattle.iamf_sequence.specs.TallyView.{IsTally};
+    ghost stands = { λ s bytes at l. AreLines s (values_of l) };
 
-    /// No OBU yet.
-    pub(crate) fn new(alloc: Global) -> Tally<'a>
-        ensures first { number_of result.reader.rules ≡ 0 }
-        ensures stands { (bytes : List ℕ) → IsTally bytes 0 result [] }
-    {
-        Tally {
-            reader: Reader::new(alloc),
-            lines: Lines::new(alloc),
-        }
-    }
-
-    /// Takes in the OBU at the place, up to which all bytes were read, and answers the place after it.
-    ///
-    /// `Refused` comes exactly where it has a fault after the OBUs before it, and tells the first; `Memory` comes only where
-    /// memory runs out. After an `Err` nothing is known.
-    pub(crate) fn take_next(
+    fn take(
         &mut self,
-        alloc: Global,
-        buffer: &'a [u8],
-        at: usize,
-    ) -> Result<usize, DecodeError>
-        requires more { at < length buffer.now }
-        requires number { number_of self.old.reader.rules < 2 ^ 40 }
-        requires stands { (l : List Entry) × IsTally buffer.now at self.old l }
-        ensures onward { IfOk result (λ end. at < end) }
-        ensures within { IfOk result (λ end. end ≤ length buffer.now) }
-        ensures number { OnOk result (number_of self.new.reader.rules ≤ number_of self.old.reader.rules + 1) }
-        ensures takes { (l : List Entry) → IsTally buffer.now at self.old l → TakesNext buffer.now (IsTally buffer.now) self.new result }
-    {
-        let next = match self.reader.next(alloc, buffer, at) {
-            Ok(next) => next,
-            Err(error) => return Err(error),
-        };
-        let frame_length = self.reader.rules.frame_length();
-        match self.lines.add_next(&next, frame_length) {
-            Ok(()) => Ok(next.view.end),
-            Err(error) => Err(DecodeError::Memory(error)),
-        }
+        _alloc: Global,
+        reader: &Reader<'a>,
+        _view: &ObuView<'a>,
+        obu: Admitted<'a>,
+    ) -> Result<(), AllocError> {
+        self.add(&obu, reader.rules.frame_length())
     }
 }

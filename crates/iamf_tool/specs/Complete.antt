@@ -1,11 +1,11 @@
 -- How a run has to end where nothing failed.
-use Rattle.std.specs.Prelude.{◌≡◌, ℕ, ◌^◌, ◌<◌, ◌≤◌, ◌⊎◌, IfSome, List, length}
+use Rattle.std.specs.Prelude.{◌≡◌, ℕ, ◌^◌, ◌<◌, ◌≤◌, ◌⊎◌, IfSome, List, length, Option, Some, None}
 use Rattle.iamf_io.specs.Causes.{Rose}
 use Rattle.iamf_tool.specs.declared.command.Command.{Command}
 use Rattle.iamf_tool.specs.declared.status.Status.{Status}
 use Rattle.iamf_tool.specs.declared.status.Status.TheVariants.{Done, Refused, Memory, TooLarge}
 use Rattle.iamf_tool.specs.Outcome.{Output, Refusal, Outcome}
-use Rattle.iamf_tool.specs.Ends.{Side}
+use Rattle.iamf_tool.specs.Ends.{Side, Ran}
 
 -- the count did not rise
 abbrev pub IsCalm : Side → Type 0
@@ -21,5 +21,7 @@ pub record CompletesOn (status : Status) (c : Command) (source out : Side) (b : 
   pub refused : length b ≤ 2 ^ 30 → IsCalm source → IsCalm out → (place code : ℕ) → Outcome c b (Refusal place code) → IsOrMemory status Refused
   pub too_large : 2 ^ 30 < length b → IsCalm source → IsOrMemory status TooLarge
 
-abbrev pub Completes : Status → Command → Side → Side → Type 0
-Completes status c source out = IfSome source.before (λ b. CompletesOn status c source out b)
+-- on words that say this
+abbrev pub Completes : Status → Option Command → Ran → Type 0
+Completes status None r = Unit {0}
+Completes status (Some c) r = IfSome r.source.before (λ b. CompletesOn status c r.source r.out b)

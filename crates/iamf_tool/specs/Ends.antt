@@ -1,12 +1,13 @@
--- How a run of the program ends.
-use Rattle.std.specs.Prelude.{◌≡◌, ℕ, ◌+◌, ◌^◌, ◌≤◌, ◌⊎◌, IfSome, List, [], ◌∷◌, ◌++◌, length, codes, Option}
+-- How a run of the program leaves its three ends.
+use Rattle.std.specs.Prelude.{◌≡◌, ℕ, ◌+◌, ◌^◌, ◌≤◌, ◌⊎◌, List, [], ◌∷◌, ◌++◌, length, codes, Option, Some, None}
 use Rattle.std.specs.Fmt.{decimal}
-use Rattle.std.specs.Io.KnownBytes.{Appends, Keeps, IsAtEnd}
+use Rattle.std.specs.Io.KnownBytes.{Appends, Consumes, Keeps, IsAtEnd}
 use Rattle.iamf_io.specs.Causes.{Rose}
 use Rattle.iamf_io.specs.Whole.{AppendsFront, TakesCount}
 use Rattle.iamf_tool.specs.declared.command.Command.{Command}
 use Rattle.iamf_tool.specs.declared.status.Status.{Status}
 use Rattle.iamf_tool.specs.declared.status.Status.TheVariants.{Done, Refused, Usage, Memory, ReadFault, WriteFault, TooLarge}
+use Rattle.iamf_tool.specs.Status.{status_line}
 use Rattle.iamf_tool.specs.Outcome.{Output, Refusal, Outcome}
 
 -- what a source has left or a sink holds, where it tells, and its count of faults, before a call and after it
@@ -16,8 +17,17 @@ pub record Side : Type 0 where
   pub count_before : ℕ
   pub count_after : ℕ
 
-abbrev pub side : Option (List ℕ) → Option (List ℕ) → ℕ → ℕ → Side
-side before after count_before count_after = record { before = before; after = after; count_before = count_before; count_after = count_after }
+abbrev pub side : {S : Type 0} → (S → Option (List ℕ)) → (S → ℕ) → S → S → Side
+side told faults old new = record { before = told old; after = told new; count_before = faults old; count_after = faults new }
+
+-- the source, the output and the notes of a run
+pub record Ran : Type 0 where
+  pub source : Side
+  pub out : Side
+  pub notes : Side
+
+abbrev pub ran : Side → Side → Side → Ran
+ran source out notes = record { source = source; out = out; notes = notes }
 
 pub record IsUntouched (s : Side) : Type 0 where
   pub kept : Keeps s.before s.after
@@ -37,10 +47,6 @@ pub record WroteFront (s : Side) (text : List ℕ) : Type 0 where
 abbrev pub Noted : Side → List ℕ → Type 0
 Noted s text = Wrote s text ⊎ WroteFront s text
 
--- a text and the end of its line
-abbrev pub ended : List ℕ → List ℕ
-ended text = text ++ 10 ∷ []
-
 -- `refused AT CODE`
 abbrev pub refusal_line : ℕ → ℕ → List ℕ
 refusal_line at code = codes "refused " ++ decimal at ++ 32 ∷ decimal code ++ 10 ∷ []
@@ -50,7 +56,7 @@ refusal_line at code = codes "refused " ++ decimal at ++ 32 ∷ decimal code ++ 
 -- how the writing of an output ends
 abbrev pub Delivers : Status → List ℕ → Side → Side → Type 0
 Delivers Done output out notes = Wrote out output × IsUntouched notes
-Delivers WriteFault output out notes = WroteFront out output × Noted notes (ended (codes "write failed"))
+Delivers WriteFault output out notes = WroteFront out output × Noted notes (status_line WriteFault)
 Delivers Refused output out notes = ⊥
 Delivers Usage output out notes = ⊥
 Delivers Memory output out notes = ⊥
@@ -60,7 +66,7 @@ Delivers TooLarge output out notes = ⊥
 -- how a refusal ends
 abbrev pub Refuses : Status → ℕ → ℕ → Side → Type 0
 Refuses Refused place code notes = Noted notes (refusal_line place code)
-Refuses Memory place code notes = Noted notes (ended (codes "out of memory"))
+Refuses Memory place code notes = Noted notes (status_line Memory)
 Refuses Done place code notes = ⊥
 Refuses Usage place code notes = ⊥
 Refuses ReadFault place code notes = ⊥
@@ -87,17 +93,18 @@ pub record IsCutOff (c : Command) (b : List ℕ) (out notes : Side) : Type 0 whe
   pub output : List ℕ
   pub gives : Outcome c b (Output output)
   pub wrote : WroteFront out output
-  pub noted : Noted notes (ended (codes "write failed"))
+  pub noted : Noted notes (status_line WriteFault)
 
-pub record HasNoMemory (out notes : Side) : Type 0 where
+-- nothing is written but the line of the status
+pub record IsNoted (status : Status) (out notes : Side) : Type 0 where
   pub untouched : IsUntouched out
-  pub noted : Noted notes (ended (codes "out of memory"))
+  pub noted : Noted notes (status_line status)
 
 -- how the command ends on these bytes
 abbrev pub Concludes : Status → Command → List ℕ → Side → Side → Type 0
 Concludes Done c b out notes = IsDone c b out notes
 Concludes Refused c b out notes = IsRefused c b out notes
-Concludes Memory c b out notes = HasNoMemory out notes
+Concludes Memory c b out notes = IsNoted Memory out notes
 Concludes WriteFault c b out notes = IsCutOff c b out notes
 Concludes Usage c b out notes = ⊥
 Concludes ReadFault c b out notes = ⊥
@@ -105,42 +112,49 @@ Concludes TooLarge c b out notes = ⊥
 
 -- ---- with the reading of the input
 
--- the source gave all its bytes without a fault, at most 2^30 of them, and this is so of them where it told them
+-- The source gave bytes to its end without a fault, at most 2^30 of them: all that it had left, where it tells these. This
+-- is so of the bytes that it gave.
 pub record WasRead (source : Side) (P : List ℕ → Type 0) : Type 0 where
+  pub bytes : List ℕ
+  pub within : length bytes ≤ 2 ^ 30
+  pub taken : Consumes source.before source.after bytes
   pub end : IsAtEnd source.after
   pub same : source.count_after ≡ source.count_before
-  pub bytes : IfSome source.before (λ b. (length b ≤ 2 ^ 30) × P b)
+  pub is : P bytes
 
-pub record ReadFailed (source out notes : Side) : Type 0 where
-  pub rose : Rose source.count_before source.count_after
-  pub untouched : IsUntouched out
-  pub noted : Noted notes (ended (codes "read failed"))
+-- the source failed
+pub record ReadFailed (r : Ran) : Type 0 where
+  pub rose : Rose r.source.count_before r.source.count_after
+  pub noted : IsNoted ReadFault r.out r.notes
 
 -- the source gave 2^30 + 1 bytes without a fault
-pub record IsTooLarge (source out notes : Side) : Type 0 where
-  pub taken : TakesCount source.before source.after (2 ^ 30 + 1)
-  pub same : source.count_after ≡ source.count_before
-  pub untouched : IsUntouched out
-  pub noted : Noted notes (ended (codes "input too large"))
+pub record IsTooLarge (r : Ran) : Type 0 where
+  pub taken : TakesCount r.source.before r.source.after (2 ^ 30 + 1)
+  pub same : r.source.count_after ≡ r.source.count_before
+  pub noted : IsNoted TooLarge r.out r.notes
 
 -- there was no memory, while the input was read or after it
-pub record RanOut (source out notes : Side) : Type 0 where
-  pub same : source.count_after ≡ source.count_before
-  pub no_memory : HasNoMemory out notes
+pub record RanOut (r : Ran) : Type 0 where
+  pub same : r.source.count_after ≡ r.source.count_before
+  pub noted : IsNoted Memory r.out r.notes
 
 -- how a run on a command ends
-abbrev pub Ends : Status → Command → Side → Side → Side → Type 0
-Ends Done c source out notes = WasRead source (λ b. IsDone c b out notes)
-Ends Refused c source out notes = WasRead source (λ b. IsRefused c b out notes)
-Ends WriteFault c source out notes = WasRead source (λ b. IsCutOff c b out notes)
-Ends Memory c source out notes = RanOut source out notes
-Ends ReadFault c source out notes = ReadFailed source out notes
-Ends TooLarge c source out notes = IsTooLarge source out notes
-Ends Usage c source out notes = ⊥
+abbrev pub Ends : Status → Command → Ran → Type 0
+Ends Done c r = WasRead r.source (λ b. IsDone c b r.out r.notes)
+Ends Refused c r = WasRead r.source (λ b. IsRefused c b r.out r.notes)
+Ends WriteFault c r = WasRead r.source (λ b. IsCutOff c b r.out r.notes)
+Ends Memory c r = RanOut r
+Ends ReadFault c r = ReadFailed r
+Ends TooLarge c r = IsTooLarge r
+Ends Usage c r = ⊥
 
--- how a run on words that are no command ends
-pub record IsUsage (status : Status) (source out notes : Side) : Type 0 where
+-- how a run on words that are no command ends: nothing is read
+pub record IsUsage (status : Status) (r : Ran) : Type 0 where
   pub status_is : status ≡ Usage
-  pub unread : IsUntouched source
-  pub untouched : IsUntouched out
-  pub noted : Noted notes (ended (codes "usage: iamf_tool COMMAND < INPUT > OUTPUT"))
+  pub unread : IsUntouched r.source
+  pub noted : IsNoted Usage r.out r.notes
+
+-- how a run on words that say this ends
+abbrev pub Runs : Status → Option Command → Ran → Type 0
+Runs status None r = IsUsage status r
+Runs status (Some c) r = Ends status c r

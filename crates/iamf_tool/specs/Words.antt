@@ -5,15 +5,19 @@ use Rattle.std.specs.Str.{bytes_eq}
 use Rattle.iamf_tool.specs.declared.command.Command.{Command}
 use Rattle.iamf_tool.specs.declared.command.Command.TheVariants as command
 
--- the command that one word says
-abbrev pub command_named : List ℕ → Option Command
-command_named word =
-    if bytes_eq word (codes "list") then Some command.List
-    else if bytes_eq word (codes "check") then Some command.Check
-    else if bytes_eq word (codes "canon") then Some command.Canon else None
+-- a command that has no words after its name
+abbrev pub alone : Command → List (String Global) → Option Command
+alone c [] = Some c
+alone c (word ∷ words) = None
 
--- the command that the words say: one word alone, which is its name
+-- the command of this name with these words after it
+abbrev pub command_with : List ℕ → List (String Global) → Option Command
+command_with name words =
+    if bytes_eq name (codes "list") then alone command.List words
+    else if bytes_eq name (codes "check") then alone command.Check words
+    else if bytes_eq name (codes "canon") then alone command.Canon words else None
+
+-- the command that the words say
 abbrev pub command_of : List (String Global) → Option Command
 command_of [] = None
-command_of (word ∷ []) = command_named (string_bytes word)
-command_of (word ∷ next ∷ words) = None
+command_of (name ∷ words) = command_with (string_bytes name) words

@@ -1,5 +1,5 @@
 ghost use Rattle.std.specs.Prelude.{◌≡◌};
-ghost use Rattle.iamf_tool.specs.Words.{command_named, command_of};
+ghost use Rattle.iamf_tool.specs.Words.{alone, command_with, command_of};
 
 /// What the words of the command line ask for.
 #[derive(Clone, Copy, Debug, PartialEq, Eq)]
@@ -12,18 +12,28 @@ pub enum Command {
     Canon,
 }
 
-// The command of this name.
-fn command_named(word: &str) -> Option<Command>
-    ensures { result ≡ command_named word.now }
+// The command, which has no words after its name.
+fn alone(command: Command, words: &[String]) -> Option<Command>
+    ensures { result ≡ alone command words.now }
 {
-    if word == "list" {
-        return Some(Command::List);
+    match words {
+        [] => Some(command),
+        _ => None,
     }
-    if word == "check" {
-        return Some(Command::Check);
+}
+
+// The command of this name with these words after it.
+fn command_with(name: &str, words: &[String]) -> Option<Command>
+    ensures { result ≡ command_with name.now words.now }
+{
+    if name == "list" {
+        return alone(Command::List, words);
     }
-    if word == "canon" {
-        return Some(Command::Canon);
+    if name == "check" {
+        return alone(Command::Check, words);
+    }
+    if name == "canon" {
+        return alone(Command::Canon, words);
     }
     None
 }
@@ -33,7 +43,7 @@ pub fn read_words(words: &[String]) -> Option<Command>
     ensures { result ≡ command_of words.now }
 {
     match words {
-        [word] => command_named(word.as_str()),
-        _ => None,
+        [name, words @ ..] => command_with(name.as_str(), words),
+        [] => None,
     }
 }

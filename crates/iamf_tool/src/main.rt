@@ -1,4 +1,4 @@
-//! Reads, checks, writes and plays IAMF sequences (AOMedia Immersive Audio Model and Formats 1.0.0).
+//! Lists, checks and canonically writes IAMF sequences (AOMedia Immersive Audio Model and Formats 1.0.0).
 #![tactic(auto)]
 
 mod answer;
@@ -10,6 +10,7 @@ mod run;
 mod status;
 #[cfg(test)]
 mod tests;
+mod whole;
 
 use iamf_io::{StdSink, StdSource};
 use run::run;

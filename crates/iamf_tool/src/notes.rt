@@ -1,13 +1,15 @@
-ghost use Rattle.std.specs.Prelude.{◌≡◌, ◌++◌, IfOk, codes};
-ghost use Rattle.iamf_tool.specs.Ends.{side, Noted, refusal_line};
+ghost use Rattle.std.specs.Prelude.{◌≡◌, ◌++◌, IfOk};
+ghost use Rattle.iamf_tool.specs.Status.{status_line};
+ghost use Rattle.iamf_tool.specs.Ends.{side, Noted, Refuses, refusal_line};
 
+use crate::status::Status;
 use iamf_io::{Sink, write_all};
 use itoa::Buffer;
 use std::alloc::{AllocError, Global};
 
-/// Writes a line on the notes. Their failure changes nothing.
-pub fn note<N: Sink>(notes: &mut N, line: &[u8])
-    ensures { Noted (side (N.held notes.old) (N.held notes.new) (N.faults notes.old) (N.faults notes.new)) line.now }
+// Writes a line on the notes. Their failure changes nothing.
+fn note<N: Sink>(notes: &mut N, line: &[u8])
+    ensures { Noted (side N.held N.faults notes.old notes.new) line.now }
 {
     match write_all(notes, line) {
         Ok(()) => {}
@@ -15,8 +17,17 @@ pub fn note<N: Sink>(notes: &mut N, line: &[u8])
     }
 }
 
-/// The line of a refusal.
-pub fn refusal(alloc: Global, at: u64, code: u32) -> Result<Vec<u8>, AllocError>
+/// Notes the line of the status, and answers it.
+pub fn ended<N: Sink>(status: Status, notes: &mut N) -> Status
+    ensures same { result ≡ status }
+    ensures noted { Noted (side N.held N.faults notes.old notes.new) (status_line status) }
+{
+    note(notes, status.line());
+    status
+}
+
+// The line of a refusal.
+fn refusal(alloc: Global, at: u64, code: u32) -> Result<Vec<u8>, AllocError>
     ensures { IfOk result (λ line. line.items ≡ refusal_line at code) }
 {
     let mut digits = Buffer::new();
@@ -26,4 +37,17 @@ pub fn refusal(alloc: Global, at: u64, code: u32) -> Result<Vec<u8>, AllocError>
     line.extend_from_slice(digits.format(code).as_bytes())?;
     line.push(b'\n')?;
     Ok(line)
+}
+
+/// Notes the place and the number of a refusal.
+pub fn refuse<N: Sink>(alloc: Global, at: u64, code: u32, notes: &mut N) -> Status
+    ensures { Refuses result at code (side N.held N.faults notes.old notes.new) }
+{
+    match refusal(alloc, at, code) {
+        Ok(line) => {
+            note(notes, &line);
+            Status::Refused
+        }
+        Err(_) => ended(Status::Memory, notes),
+    }
 }

@@ -1,5 +1,5 @@
 ghost use Rattle.std.specs.Prelude.{◌≡◌};
-ghost use Rattle.iamf_tool.specs.Status.{status_number};
+ghost use Rattle.iamf_tool.specs.Status.{status_number, status_line};
 
 /// How a run ended.
 #[derive(Clone, Copy, Debug, PartialEq, Eq)]
@@ -33,6 +33,20 @@ impl Status {
             Status::ReadFault => 4,
             Status::WriteFault => 5,
             Status::TooLarge => 6,
+        }
+    }
+
+    /// The line that is noted of it: none of an output, and of a refusal it has its own.
+    pub fn line(self) -> &'static [u8]
+        ensures { result.now ≡ status_line self }
+    {
+        match self {
+            Status::Done | Status::Refused => b"",
+            Status::Usage => b"usage: iamf_tool COMMAND < INPUT > OUTPUT\n",
+            Status::Memory => b"out of memory\n",
+            Status::ReadFault => b"read failed\n",
+            Status::WriteFault => b"write failed\n",
+            Status::TooLarge => b"input too large\n",
         }
     }
 }

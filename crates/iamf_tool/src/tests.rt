@@ -20,15 +20,15 @@ const ITS_LINES: &[u8] =
 
 #[test]
 fn one_unit_of_lpcm_lists_in_whole_and_in_pieces_of_one(rt: HostRuntime) -> Result<(), Fail> {
-    let whole = Case::writes("list", ONE_UNIT, &[ITS_LINES]);
-    assert!(rt; whole.holds(rt.alloc())?);
+    let whole = Case::writes(&["list"], ONE_UNIT, &[ITS_LINES]);
+    whole.check(&rt, rt.alloc())?;
     let pieces = Case {
         piece: 1,
-        ..Case::writes("list", ONE_UNIT, &[ITS_LINES])
+        ..Case::writes(&["list"], ONE_UNIT, &[ITS_LINES])
     };
-    assert!(rt; pieces.holds(rt.alloc())?);
-    let empty = Case::writes("list", &[], &[]);
-    assert!(rt; empty.holds(rt.alloc())?);
+    pieces.check(&rt, rt.alloc())?;
+    let empty = Case::writes(&["list"], &[], &[]);
+    empty.check(&rt, rt.alloc())?;
     Ok(())
 }
 
@@ -38,9 +38,9 @@ fn flags_have_their_letters(rt: HostRuntime) -> Result<(), Fail> {
     // OBU may have an extension.
     let flags = b"\xc4\x00\x32\x02\x03\x05\xc1\x02\x01\x00";
     let lines = b"0 24 2 r--\n2 6 4 -t-\n6 24 4 --x\n";
-    assert!(rt; Case::writes("list", &[flags], &[lines]).holds(rt.alloc())?);
-    let redundant = Case::refuses("list", &[b"\x24\x00"], b"refused 0 3\n");
-    assert!(rt; redundant.holds(rt.alloc())?);
+    Case::writes(&["list"], &[flags], &[lines]).check(&rt, rt.alloc())?;
+    let redundant = Case::refuses(&["list"], &[b"\x24\x00"], b"refused 0 3\n");
+    redundant.check(&rt, rt.alloc())?;
     Ok(())
 }
 
@@ -58,26 +58,35 @@ fn faulty_headers_are_refused_by_place_and_number(rt: HostRuntime) -> Result<(),
         (b"\x32\x01\x03", b"refused 0 4\n"),
     ];
     for (input, notes) in cases {
-        assert!(rt; Case::refuses("list", &[input], notes).holds(rt.alloc())?);
+        Case::refuses(&["list"], &[input], notes).check(&rt, rt.alloc())?;
     }
     Ok(())
 }
 
 #[test]
 fn words_that_are_no_command_read_nothing(rt: HostRuntime) -> Result<(), Fail> {
-    let usage = Case {
-        word: "lists",
-        // Even the first read would fail.
-        read_fails: &[0],
-        ..Case::ends(
-            "list",
-            ONE_UNIT,
-            Status::Usage,
-            &[],
-            b"usage: iamf_tool COMMAND < INPUT > OUTPUT\n",
-        )
-    };
-    assert!(rt; usage.holds(rt.alloc())?);
+    let none: &[&[&str]] = &[
+        &[],
+        &[""],
+        &["lists"],
+        &["list", "list"],
+        &["check", ""],
+        &["canon", "check"],
+    ];
+    for words in none {
+        let usage = Case {
+            // Even the first read would fail.
+            read_fails: &[0],
+            ..Case::ends(
+                words,
+                ONE_UNIT,
+                Status::Usage,
+                &[],
+                b"usage: iamf_tool COMMAND < INPUT > OUTPUT\n",
+            )
+        };
+        usage.check(&rt, rt.alloc())?;
+    }
     Ok(())
 }
 
@@ -86,37 +95,43 @@ fn failures_of_the_outside_have_their_status(rt: HostRuntime) -> Result<(), Fail
     let third_read = Case {
         piece: 40,
         read_fails: &[2],
-        ..Case::ends("list", ONE_UNIT, Status::ReadFault, &[], b"read failed\n")
+        ..Case::ends(
+            &["list"],
+            ONE_UNIT,
+            Status::ReadFault,
+            &[],
+            b"read failed\n",
+        )
     };
-    assert!(rt; third_read.holds(rt.alloc())?);
+    third_read.check(&rt, rt.alloc())?;
     let second_write = Case {
         most: 10,
         write_fails: &[1],
         ..Case::ends(
-            "list",
+            &["list"],
             ONE_UNIT,
             Status::WriteFault,
             &[b"0 31 8 ---"],
             b"write failed\n",
         )
     };
-    assert!(rt; second_write.holds(rt.alloc())?);
+    second_write.check(&rt, rt.alloc())?;
     let flush = Case {
         write_fails: &[1],
         ..Case::ends(
-            "list",
+            &["list"],
             ONE_UNIT,
             Status::WriteFault,
             &[ITS_LINES],
             b"write failed\n",
         )
     };
-    assert!(rt; flush.holds(rt.alloc())?);
+    flush.check(&rt, rt.alloc())?;
     let note = Case {
         note_fails: &[0],
-        ..Case::ends("list", &[b"\xf8"], Status::Refused, &[], b"")
+        ..Case::ends(&["list"], &[b"\xf8"], Status::Refused, &[], b"")
     };
-    assert!(rt; note.holds(rt.alloc())?);
+    note.check(&rt, rt.alloc())?;
     Ok(())
 }
 

@@ -4,11 +4,21 @@ use crate::status::Status;
 use iamf_io::{MemorySink, MemorySource};
 use iamf_sequence::{decode, encode, encode_obu, report, summary};
 use std::alloc::{AllocError, Global};
+use std::process::Abort;
+use std::test::Fail;
+
+/// What stands at the end of a run.
+#[derive(Debug, Drop, PartialEq, Eq)]
+pub struct Ended {
+    pub status: Status,
+    pub out: Vec<u8>,
+    pub notes: Vec<u8>,
+}
 
 /// What a run takes, and how it ends.
-#[derive(Drop)]
+#[derive(Clone, Copy)]
 pub struct Case<'a> {
-    pub word: &'a str,
+    pub words: &'a [&'a str],
     /// The parts of the input, one after the other.
     pub input: &'a [&'a [u8]],
     /// How many bytes a read gives at most.
@@ -27,14 +37,14 @@ pub struct Case<'a> {
 impl<'a> Case<'a> {
     /// A run where nothing fails.
     pub fn ends(
-        word: &'a str,
+        words: &'a [&'a str],
         input: &'a [&'a [u8]],
         status: Status,
         out: &'a [&'a [u8]],
         notes: &'a [u8],
     ) -> Case<'a> {
         Case {
-            word,
+            words,
             input,
             piece: 4096,
             read_fails: &[],
@@ -48,29 +58,49 @@ impl<'a> Case<'a> {
     }
 
     /// A run that writes this.
-    pub fn writes(word: &'a str, input: &'a [&'a [u8]], out: &'a [&'a [u8]]) -> Case<'a> {
-        Case::ends(word, input, Status::Done, out, &[])
+    pub fn writes(words: &'a [&'a str], input: &'a [&'a [u8]], out: &'a [&'a [u8]]) -> Case<'a> {
+        Case::ends(words, input, Status::Done, out, &[])
     }
 
     /// A run that notes this refusal.
-    pub fn refuses(word: &'a str, input: &'a [&'a [u8]], notes: &'a [u8]) -> Case<'a> {
-        Case::ends(word, input, Status::Refused, &[], notes)
+    pub fn refuses(words: &'a [&'a str], input: &'a [&'a [u8]], notes: &'a [u8]) -> Case<'a> {
+        Case::ends(words, input, Status::Refused, &[], notes)
     }
 
-    /// Whether the run ends so.
-    pub fn holds(&self, alloc: Global) -> Result<bool, AllocError> {
+    /// How it has to end.
+    fn wanted(&self, alloc: Global) -> Result<Ended, AllocError> {
+        Ok(Ended {
+            status: self.status,
+            out: whole(alloc, self.out)?,
+            notes: Vec::from_slice(alloc, self.notes)?,
+        })
+    }
+
+    /// How it ends. Reads and writes are of at least one byte.
+    fn came(&self, alloc: Global) -> Result<Ended, AllocError> {
         let mut words = Vec::new(alloc);
-        words.push(String::from_str(alloc, self.word)?)?;
-        if self.piece == 0 || self.most == 0 {
-            return Ok(false);
+        for word in self.words {
+            words.push(String::from_str(alloc, word)?)?;
         }
         let input = whole(alloc, self.input)?;
-        let wanted = whole(alloc, self.out)?;
-        let mut source = MemorySource::new(alloc, &input, &[self.piece], self.read_fails)?;
-        let mut out = MemorySink::new(alloc, 4096, self.most, self.write_fails)?;
+        let piece = self.piece.max(1);
+        let most = self.most.max(1);
+        let mut source = MemorySource::new(alloc, &input, &[piece], self.read_fails)?;
+        let mut out = MemorySink::new(alloc, 4096, most, self.write_fails)?;
         let mut notes = MemorySink::new(alloc, 4096, 4096, self.note_fails)?;
         let status = run(alloc, &words, &mut source, &mut out, &mut notes);
-        Ok(status == self.status && out.bytes() == wanted.as_slice() && notes.bytes() == self.notes)
+        Ok(Ended {
+            status,
+            out: Vec::from_slice(alloc, out.bytes())?,
+            notes: Vec::from_slice(alloc, notes.bytes())?,
+        })
+    }
+
+    /// Asserts that the run ends so.
+    pub fn check(&self, rt: &impl Abort, alloc: Global) -> Result<(), AllocError> {
+        let wanted = self.wanted(alloc)?;
+        assert_eq!(rt; self.came(alloc)?, wanted, "of {:?}", self.input);
+        Ok(())
     }
 }
 
@@ -83,39 +113,28 @@ pub fn whole(alloc: Global, parts: &[&[u8]]) -> Result<Vec<u8>, AllocError> {
     Ok(bytes)
 }
 
-/// Whether this is the report on the sequence that is kept of the input.
-pub fn reports(alloc: Global, input: &[&[u8]], lines: &[&[u8]]) -> Result<bool, AllocError> {
+/// The report on the sequence that is kept of the input.
+pub fn reported(rt: &impl Abort, alloc: Global, input: &[&[u8]]) -> Result<Vec<u8>, Fail> {
     let bytes = whole(alloc, input)?;
-    let wanted = whole(alloc, lines)?;
-    if bytes.len() > 1 << 30 {
-        return Ok(false);
-    }
-    match decode(alloc, &bytes) {
-        Ok(sequence) => {
-            let summary = summary(alloc, &sequence)?;
-            Ok(report(alloc, &summary)?.as_slice() == wanted.as_slice())
-        }
-        Err(_) => Ok(false),
-    }
+    assert!(rt; bytes.len() <= 1 << 30);
+    let sequence = decode(alloc, &bytes)?;
+    let summary = summary(alloc, &sequence)?;
+    Ok(report(alloc, &summary)?)
 }
 
-/// Whether this is the canonical spelling of the sequence that is kept of the input, and of its OBUs one by one.
-pub fn encodes(alloc: Global, input: &[&[u8]], spelling: &[&[u8]]) -> Result<bool, AllocError> {
+/// The canonical spelling of the sequence that is kept of the input: of the whole, and of its OBUs one by one.
+pub fn encoded(
+    rt: &impl Abort,
+    alloc: Global,
+    input: &[&[u8]],
+) -> Result<(Vec<u8>, Vec<u8>), Fail> {
     let bytes = whole(alloc, input)?;
-    let wanted = whole(alloc, spelling)?;
-    if bytes.len() > 1 << 30 {
-        return Ok(false);
+    assert!(rt; bytes.len() <= 1 << 30);
+    let sequence = decode(alloc, &bytes)?;
+    let mut parts = Vec::new(alloc);
+    for i in 0..sequence.count() {
+        let part = encode_obu(alloc, &sequence, i)?;
+        parts.extend_from_slice(&part)?;
     }
-    match decode(alloc, &bytes) {
-        Ok(sequence) => {
-            let mut parts = Vec::new(alloc);
-            for i in 0..sequence.count() {
-                let part = encode_obu(alloc, &sequence, i)?;
-                parts.extend_from_slice(&part)?;
-            }
-            let all = encode(alloc, &sequence)?;
-            Ok(all.as_slice() == wanted.as_slice() && parts.as_slice() == wanted.as_slice())
-        }
-        Err(_) => Ok(false),
-    }
+    Ok((encode(alloc, &sequence)?, parts))
 }

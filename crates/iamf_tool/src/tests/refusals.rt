@@ -10,6 +10,12 @@ use std::test::Fail;
 type Refused = (&'static [&'static [u8]], &'static [u8]);
 
 const HEADERS_AND_PAYLOADS: &[Refused] = &[
+    // A size of nine bytes, and one of 2^32.
+    (
+        &[b"\xf8\x86\x80\x80\x80\x80\x80\x80\x80\x00\x00"],
+        b"refused 0 1\n",
+    ),
+    (&[b"\xf8\x80\x80\x80\x80\x10"], b"refused 0 1\n"),
     (&[b"\xf8\xff\xff\xff\xff\x0f"], b"refused 0 2\n"),
     // The id of the codec config is 2^32.
     (
@@ -243,10 +249,7 @@ const OF_UNITS: &[Refused] = &[
 fn inputs_are_refused_by_their_first_fault(rt: HostRuntime) -> Result<(), Fail> {
     for rows in [HEADERS_AND_PAYLOADS, OF_DESCRIPTORS, OF_UNITS] {
         for (row, (input, notes)) in rows.iter().enumerate() {
-            assert!(rt;
-                Case::refuses("check", input, notes).holds(rt.alloc())?,
-                "row {row}"
-            );
+            Case::refuses(&["check"], input, notes).check(&rt, rt.alloc())?;
         }
     }
     Ok(())

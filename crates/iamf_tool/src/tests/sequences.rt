@@ -1,5 +1,5 @@
 //! `check` and `canon` on worked examples.
-use super::case::{Case, encodes, reports, whole};
+use super::case::{Case, encoded, reported, whole};
 use super::parts::{
     BLOCK, CODEC, DELIMITER, DESCRIPTORS, ELEMENT, FLAC, HEAD, HEADER, MIX, MIX_OF_BOTH, MONO,
     OPUS, SAMPLES, SECOND_ELEMENT,
@@ -146,21 +146,20 @@ const REPORTS: &[Written] = &[
 #[test]
 fn sequences_are_reported(rt: HostRuntime) -> Result<(), Fail> {
     for (row, (input, report)) in REPORTS.iter().enumerate() {
-        assert!(rt;
-            Case::writes("check", input, report).holds(rt.alloc())?,
-            "row {row}"
-        );
-        assert!(rt; reports(rt.alloc(), input, report)?, "kept, row {row}");
+        Case::writes(&["check"], input, report).check(&rt, rt.alloc())?;
+        let kept = reported(&rt, rt.alloc(), input)?;
+        let wanted = whole(rt.alloc(), report)?;
+        assert_eq!(rt; kept.as_slice(), wanted.as_slice(), "kept, row {row}");
     }
     let in_pieces_of_one = Case {
         piece: 1,
         ..Case::writes(
-            "check",
+            &["check"],
             &[DESCRIPTORS, DELIMITER, HEAD, SAMPLES],
             &[LINES, ONE_UNIT],
         )
     };
-    assert!(rt; in_pieces_of_one.holds(rt.alloc())?);
+    in_pieces_of_one.check(&rt, rt.alloc())?;
     Ok(())
 }
 
@@ -221,14 +220,18 @@ const SPELLINGS: &[Written] = &[
 #[test]
 fn sequences_are_spelled_canonically(rt: HostRuntime) -> Result<(), Fail> {
     for (row, (input, spelling)) in SPELLINGS.iter().enumerate() {
-        assert!(rt;
-            Case::writes("canon", input, spelling).holds(rt.alloc())?,
-            "row {row}"
+        Case::writes(&["canon"], input, spelling).check(&rt, rt.alloc())?;
+        let (all, parts) = encoded(&rt, rt.alloc(), input)?;
+        let wanted = whole(rt.alloc(), spelling)?;
+        assert_eq!(rt; all.as_slice(), wanted.as_slice(), "kept, row {row}");
+        assert_eq!(rt;
+            parts.as_slice(),
+            wanted.as_slice(),
+            "one by one, row {row}"
         );
-        assert!(rt; encodes(rt.alloc(), input, spelling)?, "kept, row {row}");
     }
-    let refused = Case::refuses("canon", &[HEADER, OPUS, ELEMENT, MIX], b"refused 8 13\n");
-    assert!(rt; refused.holds(rt.alloc())?);
+    let refused = Case::refuses(&["canon"], &[HEADER, OPUS, ELEMENT, MIX], b"refused 8 13\n");
+    refused.check(&rt, rt.alloc())?;
     Ok(())
 }
 
@@ -238,26 +241,26 @@ fn failures_of_the_outside_end_the_commands(rt: HostRuntime) -> Result<(), Fail>
         piece: 40,
         read_fails: &[2],
         ..Case::ends(
-            "check",
+            &["check"],
             &[DESCRIPTORS, DELIMITER, HEAD, SAMPLES],
             Status::ReadFault,
             &[],
             b"read failed\n",
         )
     };
-    assert!(rt; third_read.holds(rt.alloc())?);
+    third_read.check(&rt, rt.alloc())?;
     let second_write = Case {
         most: 10,
         write_fails: &[1],
         ..Case::ends(
-            "canon",
+            &["canon"],
             &[DESCRIPTORS, DELIMITER, HEAD, SAMPLES],
             Status::WriteFault,
             &[b"\xf8\x06iamf\x00\x00\x00\x0e"],
             b"write failed\n",
         )
     };
-    assert!(rt; second_write.holds(rt.alloc())?);
+    second_write.check(&rt, rt.alloc())?;
     Ok(())
 }
 
@@ -284,12 +287,12 @@ fn fronts_of_a_sequence_are_refused(rt: HostRuntime) -> Result<(), Fail> {
         match fault_of_front(count) {
             Some((at, code)) => {
                 let notes = format!(in rt.alloc(); "refused {at} {code}\n")?;
-                let refused = Case::refuses("check", front, notes.as_bytes());
-                assert!(rt; refused.holds(rt.alloc())?, "{count} bytes");
+                let refused = Case::refuses(&["check"], front, notes.as_bytes());
+                refused.check(&rt, rt.alloc())?;
             }
             None => {
-                let written = Case::writes("check", front, &[LINES, NO_UNIT]);
-                assert!(rt; written.holds(rt.alloc())?, "{count} bytes");
+                let written = Case::writes(&["check"], front, &[LINES, NO_UNIT]);
+                written.check(&rt, rt.alloc())?;
             }
         }
     }
@@ -307,14 +310,14 @@ fn an_obu_has_at_most_two_mebibytes(rt: HostRuntime) -> Result<(), Fail> {
         b"\xc0\xfc\xff\x7f".as_slice(),
         zeros.as_slice(),
     ];
-    let written = Case::writes("check", &exactly, &[LINES, NO_UNIT]);
-    assert!(rt; written.holds(rt.alloc())?);
+    let written = Case::writes(&["check"], &exactly, &[LINES, NO_UNIT]);
+    written.check(&rt, rt.alloc())?;
     let one_more = [
         DESCRIPTORS,
         b"\xc0\xfd\xff\x7f".as_slice(),
         zeros.as_slice(),
     ];
-    let refused = Case::refuses("check", &one_more, b"refused 66 2\n");
-    assert!(rt; refused.holds(rt.alloc())?);
+    let refused = Case::refuses(&["check"], &one_more, b"refused 66 2\n");
+    refused.check(&rt, rt.alloc())?;
     Ok(())
 }

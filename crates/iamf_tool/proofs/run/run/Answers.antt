@@ -1,5 +1,6 @@
-use Rattle.iamf_tool.proofs.Complete.{completes}
+use Rattle.std.proofs.Common.{sym, ◌∙◌}
+use Rattle.iamf_tool.proofs.Complete.{completes_on}
 use Rattle.iamf_tool.proofs.run.run.Goals as goal
 
-pub returns-clause-completes : goal.returns-clause-completes
-returns-clause-completes g c = λ command is. completes _ _ _ _ _ (c.act.ensures.ends command is)
+pub returns-in-Some-clause-completes : goal.returns-in-Some-clause-completes
+returns-in-Some-clause-completes g c = completes_on _ _ c.in-Some.command _ (sym c.read_words.ensures ∙ c.in-Some.is) c.whole.ensures

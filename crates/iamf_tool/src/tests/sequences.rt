@@ -5,6 +5,7 @@ use super::parts::{
     OPUS, SAMPLES, SECOND_ELEMENT,
 };
 use crate::status::Status;
+use std::alloc::{AllocError, Global};
 use std::test::Fail;
 
 /// The parts of an input, and those of its output.
@@ -299,25 +300,33 @@ fn fronts_of_a_sequence_are_refused(rt: HostRuntime) -> Result<(), Fail> {
     Ok(())
 }
 
-#[test]
-fn an_obu_has_at_most_two_mebibytes(rt: HostRuntime) -> Result<(), Fail> {
-    let mut zeros = Vec::new(rt.alloc());
+/// The descriptors, and a reserved OBU of 2^21 - 4 bytes after its size, whose least byte is this.
+fn with_long_obu(alloc: Global, size: u8) -> Result<Vec<u8>, AllocError> {
+    let mut bytes = whole(alloc, &[DESCRIPTORS])?;
+    bytes.push(0xc0)?;
+    bytes.push(size)?;
+    bytes.push(0xff)?;
+    bytes.push(0x7f)?;
     for _ in 0..2097148 {
-        zeros.push(0)?;
+        bytes.push(0)?;
     }
-    let exactly = [
-        DESCRIPTORS,
-        b"\xc0\xfc\xff\x7f".as_slice(),
-        zeros.as_slice(),
-    ];
-    let written = Case::writes(&["check"], &exactly, &[LINES, NO_UNIT]);
+    Ok(bytes)
+}
+
+#[test]
+fn an_obu_of_two_mebibytes_is_accepted(rt: HostRuntime) -> Result<(), Fail> {
+    let bytes = with_long_obu(rt.alloc(), 0xfc)?;
+    let input = &[bytes.as_slice()];
+    let written = Case::writes(&["check"], input, &[LINES, NO_UNIT]);
     written.check(&rt, rt.alloc())?;
-    let one_more = [
-        DESCRIPTORS,
-        b"\xc0\xfd\xff\x7f".as_slice(),
-        zeros.as_slice(),
-    ];
-    let refused = Case::refuses(&["check"], &one_more, b"refused 66 2\n");
+    Ok(())
+}
+
+#[test]
+fn an_obu_above_two_mebibytes_is_refused(rt: HostRuntime) -> Result<(), Fail> {
+    let bytes = with_long_obu(rt.alloc(), 0xfd)?;
+    let input = &[bytes.as_slice()];
+    let refused = Case::refuses(&["check"], input, b"refused 66 2\n");
     refused.check(&rt, rt.alloc())?;
     Ok(())
 }

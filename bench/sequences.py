@@ -13,7 +13,7 @@ import streams
 from run import MB, MIB, PROGRAM, Fails, best_of, head, met, row, run_once, run_script
 
 CHECK_LIMIT = 1.5
-CANON_LIMIT = 3
+CANON_LIMIT = 1.8
 
 
 def last_lines(path):

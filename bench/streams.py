@@ -67,21 +67,34 @@ def frame(substream, length):
     return obu(FIRST_FRAME + substream, bytes(length))
 
 
-def layered(path, size):
-    """7.1.4 in three layers, 24 bits and 1024 samples a frame, as many units as fit into the size."""
+def layered_parts():
+    """Of 7.1.4 in three layers, 24 bits and 1024 samples a frame: the descriptors, a unit, and how many frames it has."""
     unit = b""
     substream = 0
     for _, count, coupled in THREE_LAYERS:
         for i in range(count):
             unit += frame(substream, 1024 * 3 * (2 if i < coupled else 1))
             substream += 1
-    first = descriptors(1024, 24, THREE_LAYERS)
+    return descriptors(1024, 24, THREE_LAYERS), unit, substream
+
+
+def layered(path, size):
+    """As many units of `layered_parts` as fit into the size."""
+    first, unit, substream = layered_parts()
     units = (size - len(first)) // len(unit)
     with open(path, "wb") as out:
         out.write(first)
         for _ in range(units):
             out.write(unit)
     return Stream(DESCRIPTORS + substream * units, units, 1024 * units)
+
+
+def flac_parts():
+    """Of FLAC, mono, 16 bits and 16 samples a frame: the descriptors and a unit, whose frame is 16 times -32768."""
+    info = bytes.fromhex("00100010 000000000000 0bb800f0 00000010") + bytes(16)
+    config = obu(CODEC, b"\x00fLaC" + leb(16) + b"\x00\x00" + b"\x80\x00\x00\x22" + info)
+    first = header() + config + scalable(1, [0], MONO) + obu(MIX, mix_payload(1, 1))
+    return first, obu(FIRST_FRAME, bytes.fromhex("fff86a08000f0a010003be9d"))
 
 
 def mixes(path, number):

@@ -33,18 +33,6 @@ fail() {
     printf 'failed: %s\n' "$*"
 }
 
-# FLAC frames are not read yet: these files are refused at their first audio frame, and their lines in
-# EXPECTED.tsv say what comes once they are read. Other FLAC files have a fault before that.
-flac_place() {
-    case $1 in
-        flac16_51.iamf | flac16_51_wrong_order.iamf) echo 123 ;;
-        flac16_explicit_ids.iamf) echo 117 ;;
-        flac24_scal714.iamf) echo 150 ;;
-        flac32_stereo.iamf) echo 114 ;;
-        hand_flac_short_last.iamf) echo 158 ;;
-    esac
-}
-
 # The lines of a text, joined by "; ".
 joined() {
     awk '{ printf "%s%s", (NR > 1 ? "; " : ""), $0 }' "$1"
@@ -167,14 +155,6 @@ run_commands() {
     esac
 }
 
-# Whether the answer is that of a file whose FLAC frames are not read yet; says so where it is.
-is_unread() {
-    [ "$2" = check ] || return 1
-    place=$(flac_place "$1")
-    [ -n "$place" ] && [ "$answer" = "refused $place 45" ] || return 1
-    printf 'FLAC is not read yet: %s: %s, and later: %s\n' "$1" "$answer" "$3"
-}
-
 check_answer() {
     if [ ! -f "$folder/$1" ]; then
         fail "$1: no such file"
@@ -183,7 +163,7 @@ check_answer() {
     run_commands "$folder/$1" "$2"
     if [ "$status" -eq 2 ]; then
         skipped=$((skipped + 1))
-    elif [ "$answer" = "$3" ] || is_unread "$1" "$2" "$3"; then
+    elif [ "$answer" = "$3" ]; then
         passed=$((passed + 1))
     else
         fail "$1: $2: expected '$3', got '$answer'"

@@ -1,10 +1,8 @@
 -- The number that the last bytes are, on top of a word.
-use Rattle.std.proofs.Common.{◌≡◌, ℕ, ◌+◌, ◌-◌, ◌*◌, ◌^◌, ◌%◌, ◌<◌, ◌≤◌, true, false, ltb, List, [], ◌∷◌, ◌++◌, length, get_or, take, drop, refl, sym, ap, subst, ◌∙◌, arith, Some, None}
-use Rattle.std.proofs.lemmas.Bool.{lt-ltb, le-ltb}
+use Rattle.std.proofs.Common.{◌≡◌, ℕ, ◌+◌, ◌-◌, ◌*◌, ◌^◌, ◌%◌, ◌<◌, ◌≤◌, List, [], ◌∷◌, ◌++◌, length, get_or, take, drop, refl, sym, ap, subst, ◌∙◌, arith}
 use Rattle.std.proofs.lemmas.List.{length-drop, length-take-le, take_all, take_more, append-nil, drop-drop}
 use Rattle.std.proofs.lemmas.Nat.{shl_whole, pow_below}
 use Rattle.spec_bits.specs.Bits.{Bits, number_of, bits_of, all_bits}
-use Rattle.flac_bits.specs.Ones.{first_one}
 use Rattle.flac_bits.specs.Windows.{IsTop}
 use Rattle.spec_bits.proofs.BitsLaws.{length-bits_of, number_of-bound, number_of-bits_of, all_bits-append, length-all_bits, drop-all_bits}
 use Rattle.flac_bits.proofs.TopBits.{number_of-append, shifted}

@@ -1,14 +1,14 @@
 -- The zeros on top of a word.
-use Rattle.std.proofs.Common.{◌≡◌, ℕ, zero, suc, ◌+◌, ◌-◌, ◌*◌, ◌^◌, ◌<◌, ◌≤◌, true, false, [], ◌∷◌, length, take, drop, refl, sym, ap, ◌∙◌, arith, Option, Some, None, inl, inr}
+use Rattle.std.proofs.Common.{◌≡◌, ℕ, zero, suc, ◌+◌, ◌-◌, ◌*◌, ◌/◌, ◌^◌, ◌<◌, ◌≤◌, true, false, [], ◌∷◌, length, take, drop, refl, sym, ap, subst, ◌∙◌, arith, add-one, Option, Some, None, inl, inr}
 use Rattle.std.proofs.Common.{◌⊎◌}
 use Rattle.std.proofs.lemmas.List.{length-take-le, drop-drop, drop_all}
 use Rattle.std.proofs.Math.Nat.{pow-suc, mul-le-mul_right}
-use Rattle.std.proofs.lemmas.Nat.{pow-add, pow_pos, shl_below}
+use Rattle.std.proofs.lemmas.Nat.{pow-add, pow_pos, shl_below, shr_below, shr-shr, le-div}
 use Rattle.std.specs.Int.Count.{count_leading_zeros, leading_unique, leading_of_zero}
 use Rattle.spec_bits.specs.Bits.{Bits, number_of}
 use Rattle.flac_bits.specs.Ones.{first_one, more}
 use Rattle.flac_bits.specs.Windows.{IsTop}
-use Rattle.flac_bits.proofs.TopBits.{front_below}
+use Rattle.flac_bits.proofs.TopBits.{front_below, front_split, on_top}
 
 -- The first m bits are zeros, or have their first one at z, with j bits after it.
 pub record HasOne (m : ℕ) (bits : Bits) : Type 0 where
@@ -96,3 +96,48 @@ goes_on start place count bits le so_far inside none =
 
 pub at_end : (start place : ℕ) (bits : Bits) → length bits ≤ place → first_one (drop start bits) ≡ plus (place - start) (first_one (drop place bits)) → first_one (drop start bits) ≡ None
 at_end start place bits le so_far = so_far ∙ rw (drop_all place bits le) refl
+
+-- the bits up to the first one are the number 1
+pub to_one : (bits : Bits) (z : ℕ) → first_one bits ≡ Some z → number_of (take (suc z) bits) ≡ 1
+unfolding number_of
+to_one [] z e = absurd cc
+to_one (true ∷ bits) zero e = refl
+to_one (true ∷ bits) (suc z) e = absurd cc
+to_one (false ∷ bits) zero e = absurd (no_zero (first_one bits) e)
+  where
+    no_zero : (r : Option ℕ) → more r ≡ Some 0 → ⊥
+    no_zero None e = cc
+    no_zero (Some n) e = cc
+to_one (false ∷ bits) (suc z) e = omega (arith, to_one bits z (less (first_one bits) e))
+  where
+    less : (r : Option ℕ) → more r ≡ Some (suc z) → r ≡ Some z
+    less None e = absurd cc
+    less (Some n) e = cc
+
+-- a shift leaves the first one of a word and the bits after it
+pub shifted_to : (word m z k : ℕ) (bits : Bits) → z + 1 + k ≤ m → z + 1 + k < 64 → IsTop word m bits → first_one bits ≡ Some z → word / 2 ^ (63 - (z + k)) ≡ 2 ^ k + number_of (take k (drop (z + 1) bits))
+shifted_to word m z k bits le small top one =
+    let c = z + 1 + k in
+    let places : 1 + (63 - c) ≡ 63 - (z + k) = omega arith in
+    let whole : word / 2 ^ (63 - (z + k)) ≡ number_of (take c bits) = ap (λ (j : ℕ). word / 2 ^ j) (sym places) ∙ sym (shr-shr word 1 (63 - c)) ∙ on_top word m c bits le top small in
+    let inside : c ≤ length bits = omega (arith, top.inside) in
+    let split = front_split bits c (z + 1) inside (omega arith) in
+    let rest : c - (z + 1) ≡ k = omega arith in
+    let first : number_of (take (z + 1) bits) ≡ 1 = rw add-one (to_one bits z one) in
+    whole ∙ split ∙ rw (rest, first) (omega arith)
+
+-- which is at least the one alone, and below the next power
+pub shifted_large : (word z k : ℕ) → z + 1 + k < 64 → 2 ^ (64 - z) ≤ 2 * word + 1 → 2 ^ k ≤ word / 2 ^ (63 - (z + k))
+shifted_large word z k small large =
+    let s = 63 - (z + k) in
+    let places : 1 + (k + s) ≡ 64 - z = omega arith in
+    let p : 2 ^ (64 - z) ≡ 2 * (2 ^ k * 2 ^ s) = ap (λ (j : ℕ). 2 ^ j) (sym places) ∙ pow-add 2 1 (k + s) ∙ ap (λ (n : ℕ). 2 * n) (pow-add 2 k s) in
+    le-div (2 ^ k) word (2 ^ s) (pow_pos s) (omega (arith, p, large))
+
+pub shifted_small : (word z k : ℕ) → z + 1 + k < 64 → word < 2 ^ (64 - z) → word / 2 ^ (63 - (z + k)) < 2 * 2 ^ k
+shifted_small word z k small below =
+    let s = 63 - (z + k) in
+    let places : (1 + k) + s ≡ 64 - z = omega arith in
+    let lt : word < 2 ^ ((1 + k) + s) = subst (λ (j : ℕ). word < 2 ^ j) (sym places) below in
+    let p : 2 ^ (1 + k) ≡ 2 * 2 ^ k = pow-add 2 1 k in
+    omega (arith, p, shr_below word (1 + k) s lt)

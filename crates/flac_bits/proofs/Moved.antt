@@ -1,5 +1,5 @@
 -- Windows that move on, and windows that are filled anew.
-use Rattle.std.proofs.Common.{◌≡◌, ℕ, ◌+◌, ◌-◌, ◌*◌, ◌^◌, ◌%◌, ◌<◌, ◌≤◌, true, false, List, [], length, drop, refl, sym, ap, subst, ◌∙◌, arith, inl, inr, Some}
+use Rattle.std.proofs.Common.{◌≡◌, ℕ, ◌+◌, ◌-◌, ◌*◌, ◌^◌, ◌%◌, ◌<◌, ◌≤◌, true, false, List, [], length, drop, refl, ap, subst, ◌∙◌, arith, inl, inr}
 use Rattle.std.proofs.lemmas.Bool.{cases_lt, lt-ltb, le-ltb}
 use Rattle.std.proofs.lemmas.List.{drop-drop, drop_all}
 use Rattle.std.specs.Prelude.{nat_lt}
@@ -10,7 +10,6 @@ use Rattle.flac_bits.specs.Places.{capped}
 use Rattle.flac_bits.specs.Windows.{IsTop, IsWindow, place_of}
 use Rattle.flac_bits.specs.declared.window.Window.{Window}
 use Rattle.flac_bits.proofs.TopBits.{shifted}
-use Rattle.flac_bits.proofs.LastBytes.{last_top}
 
 abbrev pub window : ℕ → ℕ → ℕ → Window
 window word count next = record { word = word; count = count; next = next }

@@ -1,8 +1,8 @@
 -- Reading a residual in a Rice code.
-use Rattle.std.proofs.Common.{◌≡◌, ℕ, ◌+◌, ◌-◌, ◌*◌, ◌/◌, ◌%◌, ◌^◌, ◌<◌, ◌≤◌, arith, refl, Result, Ok, Err, Option, Some, None, Bool, true, false, cond, ltb, eqb, List, ap, sym, subst, ◌∙◌, take, drop, length, ℤ, unsigned_abs, inl, inr}
+use Rattle.std.proofs.Common.{◌≡◌, ℕ, ◌+◌, ◌-◌, ◌*◌, ◌/◌, ◌%◌, ◌^◌, ◌<◌, ◌≤◌, arith, refl, Result, Ok, Err, Some, None, true, false, cond, eqb, List, ap, sym, subst, ◌∙◌, take, drop, length, ℤ, unsigned_abs, inl, inr}
 use Rattle.std.specs.Prelude.{nat_lt}
 use Rattle.std.proofs.lemmas.Bool.{le-leb, lt-leb, lt-ltb, le-ltb, eq-eqb, ne_eqb, cases_eq, cases_lt}
-use Rattle.std.proofs.lemmas.List.{length-drop}
+use Rattle.std.proofs.lemmas.List.{length-drop, drop-drop}
 use Rattle.std.proofs.lemmas.Nat.{pow_pos, mul-le}
 use Rattle.std.proofs.Math.Nat.{mul-le-mul_left, mul-le-mul_right, pow-le-pow_right}
 use Rattle.spec_bits.specs.Bits.{Bits, number_of, all_bits}
@@ -102,6 +102,19 @@ code_in bytes place h k l end rest one is at le low last =
       there = subst (λ (n : ℕ). k ≤ length (drop n b)) at (omega (arith, is.top.inside));
       low = subst (λ (n : ℕ). number_of (take k (drop n b)) ≡ l) at (sym low);
       last = omega (arith, last, at);
+    }
+
+-- the code that stands in a window from its first bit on
+pub code_near : (bytes : List ℕ) (place h k l end : ℕ) (w : Window) → IsWindow bytes w → place_of w ≡ place → h + 1 + k ≤ w.count → first_one (drop place (all_bits bytes)) ≡ Some h
+    → l ≡ number_of (take k (drop (h + 1) (drop place (all_bits bytes)))) → end ≡ place + (h + 1) + k → Code k bytes place h l end
+code_near bytes place h k l end w is at le one low last =
+    let b = all_bits bytes in
+    let top : w.count ≤ length (drop place b) = subst (λ (n : ℕ). w.count ≤ length (drop n b)) at is.top.inside in
+    record {
+      one = one;
+      there = omega (arith, top, length-drop (place + (h + 1)) b, length-drop place b);
+      low = subst (λ (x : Bits). number_of (take k x) ≡ l) (drop-drop (h + 1) place b) (sym low);
+      last = sym last;
     }
 
 pub code_some : (k : ℕ) (bytes : List ℕ) (place h l end : ℕ) (z : ℤ) → Code k bytes place h l end → IsUnfolded (Some z) (h * 2 ^ k + l) → read short (coded_residual k) (cursor bytes place) ≡ Ok (z, cursor bytes end)

@@ -1,10 +1,10 @@
 -- A word whose top is bits.
-use Rattle.std.proofs.Common.{◌≡◌, ℕ, zero, suc, ◌+◌, ◌-◌, ◌*◌, ◌/◌, ◌%◌, ◌^◌, ◌<◌, ◌≤◌, true, false, List, [], ◌∷◌, ◌++◌, length, take, drop, refl, sym, ap, subst, ◌∙◌, arith, length-append}
-use Rattle.std.proofs.lemmas.List.{length-take-le, length-drop, drop-drop, drop_all, drop_at}
+use Rattle.std.proofs.Common.{◌≡◌, ℕ, zero, suc, ◌+◌, ◌-◌, ◌*◌, ◌/◌, ◌%◌, ◌^◌, ◌<◌, ◌≤◌, true, false, [], ◌∷◌, ◌++◌, length, take, drop, refl, sym, ap, subst, ◌∙◌, arith, length-append}
+use Rattle.std.proofs.lemmas.List.{length-take-le, length-drop}
 use Rattle.std.proofs.lemmas.Nat.{pow-add, shr_high, mod_low, shl_below, shr-shr}
-use Rattle.spec_bits.specs.Bits.{Bits, number_of, bits_of, all_bits}
+use Rattle.spec_bits.specs.Bits.{Bits, number_of}
 use Rattle.flac_bits.specs.Windows.{IsTop}
-use Rattle.spec_bits.proofs.BitsLaws.{length-bits_of, number_of-bound}
+use Rattle.spec_bits.proofs.BitsLaws.{number_of-bound}
 
 pub number_of-append : (a b : Bits) → number_of (a ++ b) ≡ number_of a * 2 ^ length b + number_of b
 unfolding number_of

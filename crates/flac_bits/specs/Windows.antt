@@ -1,5 +1,5 @@
 -- Bits of a buffer on top of a word.
-use Rattle.std.specs.Prelude.{◌≡◌, ℕ, ◌+◌, ◌-◌, ◌*◌, ◌^◌, ◌<◌, ◌≤◌, ◌⊎◌, List, length, take, drop, Option, Some, None, if◌then◌else◌, nat_lt}
+use Rattle.std.specs.Prelude.{◌≡◌, ℕ, ◌+◌, ◌-◌, ◌*◌, ◌^◌, ◌≤◌, ◌⊎◌, List, length, take, drop, Option, Some, None}
 use Rattle.spec_bits.specs.Bits.{Bits, number_of, all_bits}
 use Rattle.flac_bits.specs.Ones.{first_one}
 use Rattle.flac_bits.specs.Places.{capped}

@@ -10,7 +10,7 @@ ghost use Rattle.flac_bits.specs.Windows.{IsWindow, place_of};
 
 use crate::near::Near;
 use crate::rice::residual_from;
-use crate::window::{Window, after, filled, top, window_at, zeros_from};
+use crate::window::{Window, after, filled, power, top, window_at, zeros_from};
 use spec_flac::FlacFault;
 use std::marker::Model;
 
@@ -174,15 +174,6 @@ impl<'a> Reader<'a> {
             Err(fault) => Err(fault),
         }
     }
-}
-
-// Two to the power of the count.
-#[inline(always)]
-fn power(count: u32) -> u64
-    requires { count < 57 }
-    ensures { result ≡ 2 ^ count }
-{
-    1u64 << count
 }
 
 // The number in two's complement.

@@ -169,10 +169,33 @@ pub fn top(word: u64, count: u32) -> u64
     (word >> 1) >> (63 - count)
 }
 
+/// Two to the power of the count.
+#[inline(always)]
+pub fn power(count: u32) -> u64
+    requires { count < 57 }
+    ensures { result ≡ 2 ^ count }
+{
+    1u64 << count
+}
+
+/// So many bits after the zeros and the one on top of a word, which are taken with that one by a single shift.
+#[inline(always)]
+pub fn low_bits(word: u64, zeros: u32, count: u32) -> u64
+    requires inside { zeros + 1 + count ≤ 57 }
+    requires large { 2 ^ (64 - zeros) ≤ 2 * word + 1 }
+    requires small { word < 2 ^ (64 - zeros) }
+    ensures is { (m : ℕ) (bits : Bits) → IsTop word m bits → first_one bits ≡ Some zeros → zeros + 1 + count ≤ m → result ≡ number_of (take count (drop (zeros + 1) bits)) }
+    ensures fits { result < 2 ^ count }
+{
+    (word >> (63 - (zeros + count))) - power(count)
+}
+
 /// How many zeros stand on top of a word.
 #[inline(always)]
 pub fn zeros_of(word: u64) -> u32
     ensures few { result ≤ 64 }
+    ensures large { 2 ^ (64 - result) ≤ 2 * word + 1 }
+    ensures small { word < 2 ^ (64 - result) }
     ensures first { (m : ℕ) (bits : Bits) → IsTop word m bits → result < m → first_one bits ≡ Some result }
     ensures none { (m : ℕ) (bits : Bits) → IsTop word m bits → m ≤ result → number_of (take m bits) ≡ 0 }
 {

@@ -1,5 +1,5 @@
 -- Blocks of bytes, one after the other.
-use Rattle.std.proofs.Common.{◌≡◌, ℕ, ◌+◌, ◌*◌, ◌/◌, ◌%◌, ◌<◌, ◌≤◌, List, [], ◌∷◌, ◌++◌, length, get_or, take, drop, refl, sym, ap, ◌∙◌, arith, append_assoc}
+use Rattle.std.proofs.Common.{◌≡◌, ℕ, ◌+◌, ◌*◌, ◌<◌, List, [], ◌∷◌, ◌++◌, length, get_or, take, drop, refl, sym, ap, ◌∙◌, arith}
 use Rattle.std.proofs.lemmas.List.{append-nil, drop-drop, take_more, take-append-drop}
 use Rattle.std.proofs.Math.Seq.{take-add}
 use Rattle.spec_bits.specs.Bits.{Bits, zeros, bits_of, all_bits}
@@ -14,31 +14,31 @@ parted : (xs : List ℕ) (at m n : ℕ) → all_bits (take (m + n) (drop at xs))
 parted xs at m n =
     ap all_bits (take-add m n (drop at xs) ∙ ap (λ (ys : List ℕ). take m (drop at xs) ++ take n ys) (drop-drop m at xs)) ∙ all_bits-append (take m (drop at xs)) (take n (drop (at + m) xs))
 
-pub four_words : (xs : List ℕ) (at : ℕ) (r : Bits)
-    → steps poly_16 (steps poly_16 (steps poly_16 (steps poly_16 r (all_bits (take 8 (drop at xs)))) (all_bits (take 8 (drop (at + 8) xs)))) (all_bits (take 8 (drop (at + 16) xs)))) (all_bits (take 8 (drop (at + 24) xs)))
-    ≡ steps poly_16 r (all_bits (take 32 (drop at xs)))
-four_words xs at r =
-    let b : ℕ → Bits = λ (k : ℕ). all_bits (take 8 (drop (at + k) xs)) in
-    let one = all_bits (take 8 (drop at xs)) in
-    let sixteen : at + 8 + 8 ≡ at + 16 = omega arith in
-    let twenty_four : at + 16 + 8 ≡ at + 24 = omega arith in
-    let two : all_bits (take 16 (drop at xs)) ≡ one ++ b 8 = parted xs at 8 8 in
-    let three : all_bits (take 24 (drop at xs)) ≡ all_bits (take 16 (drop at xs)) ++ b 16 = parted xs at 16 8 in
-    let four : all_bits (take 32 (drop at xs)) ≡ all_bits (take 24 (drop at xs)) ++ b 24 = parted xs at 24 8 in
-    ap (λ (s : Bits). steps poly_16 (steps poly_16 s (b 16)) (b 24)) (sym (steps_append poly_16 r one (b 8)) ∙ ap (steps poly_16 r) (sym two))
-    ∙ ap (λ (s : Bits). steps poly_16 s (b 24)) (sym (steps_append poly_16 r (all_bits (take 16 (drop at xs))) (b 16)) ∙ ap (steps poly_16 r) (sym three))
-    ∙ sym (steps_append poly_16 r (all_bits (take 24 (drop at xs))) (b 24)) ∙ ap (steps poly_16 r) (sym four)
+-- four parts of n bytes, one after the other
+pub four_parts : (xs : List ℕ) (at n two three four : ℕ) → n + n ≡ two → two + n ≡ three → three + n ≡ four → (r : Bits)
+    → steps poly_16 (steps poly_16 (steps poly_16 (steps poly_16 r (all_bits (take n (drop at xs)))) (all_bits (take n (drop (at + n) xs)))) (all_bits (take n (drop (at + two) xs)))) (all_bits (take n (drop (at + three) xs)))
+    ≡ steps poly_16 r (all_bits (take four (drop at xs)))
+four_parts xs at n two three four e2 e3 e4 r =
+    let part : ℕ → Bits = λ (k : ℕ). all_bits (take n (drop (at + k) xs)) in
+    let front : ℕ → Bits = λ (k : ℕ). all_bits (take k (drop at xs)) in
+    let to_two : front two ≡ front n ++ part n = ap front (sym e2) ∙ parted xs at n n in
+    let to_three : front three ≡ front two ++ part two = ap front (sym e3) ∙ parted xs at two n in
+    let to_four : front four ≡ front three ++ part three = ap front (sym e4) ∙ parted xs at three n in
+    ap (λ (s : Bits). steps poly_16 (steps poly_16 s (part two)) (part three)) (sym (steps_append poly_16 r (front n) (part n)) ∙ ap (steps poly_16 r) (sym to_two))
+    ∙ ap (λ (s : Bits). steps poly_16 s (part three)) (sym (steps_append poly_16 r (front two) (part two)) ∙ ap (steps poly_16 r) (sym to_three))
+    ∙ sym (steps_append poly_16 r (front three) (part three)) ∙ ap (steps poly_16 r) (sym to_four)
 
-pub next_block : (xs : List ℕ) (i : ℕ) → steps poly_16 (register (all_bits (take (32 * i) xs))) (all_bits (take 32 (drop (32 * i) xs))) ≡ register (all_bits (take (32 * (i + 1)) xs))
-next_block xs i =
-    let more : 32 * i + 32 ≡ 32 * (i + 1) = omega arith in
-    sym (register_append (all_bits (take (32 * i) xs)) (all_bits (take 32 (drop (32 * i) xs)))) ∙ ap register (sym (all_bits-append (take (32 * i) xs) (take 32 (drop (32 * i) xs)))) ∙ ap (λ (ys : List ℕ). register (all_bits ys)) (sym (take-add (32 * i) 32 xs) ∙ ap (λ (n : ℕ). take n xs) more)
+-- the next block of n bytes
+pub next_block : (xs : List ℕ) (n i : ℕ) → steps poly_16 (register (all_bits (take (n * i) xs))) (all_bits (take n (drop (n * i) xs))) ≡ register (all_bits (take (n * (i + 1)) xs))
+next_block xs n i =
+    let more : n * i + n ≡ n * (i + 1) = omega arith in
+    sym (register_append (all_bits (take (n * i) xs)) (all_bits (take n (drop (n * i) xs)))) ∙ ap register (sym (all_bits-append (take (n * i) xs) (take n (drop (n * i) xs)))) ∙ ap (λ (ys : List ℕ). register (all_bits ys)) (sym (take-add (n * i) n xs) ∙ ap (λ (k : ℕ). take k xs) more)
 
 sixteen_zeros : words_bits (0 ∷ 0 ∷ 0 ∷ 0 ∷ 0 ∷ 0 ∷ 0 ∷ 0 ∷ 0 ∷ 0 ∷ 0 ∷ 0 ∷ 0 ∷ 0 ∷ 0 ∷ 0 ∷ []) ≡ zeros 1024
 unfolding bits_of
 sixteen_zeros = refl
 
-pub nothing_yet : (xs : List ℕ) → register (words_bits (0 ∷ 0 ∷ 0 ∷ 0 ∷ 0 ∷ 0 ∷ 0 ∷ 0 ∷ 0 ∷ 0 ∷ 0 ∷ 0 ∷ 0 ∷ 0 ∷ 0 ∷ 0 ∷ [])) ≡ register (all_bits (take (32 * 0) xs))
+pub nothing_yet : (xs : List ℕ) → register (words_bits (0 ∷ 0 ∷ 0 ∷ 0 ∷ 0 ∷ 0 ∷ 0 ∷ 0 ∷ 0 ∷ 0 ∷ 0 ∷ 0 ∷ 0 ∷ 0 ∷ 0 ∷ 0 ∷ [])) ≡ register (all_bits (take (128 * 0) xs))
 unfolding all_bits
 nothing_yet xs = ap register sixteen_zeros ∙ register_zeros 1024
 

@@ -1,9 +1,9 @@
 -- A word above sixteen others may be added to three of those below it instead.
-use Rattle.std.proofs.Common.{◌≡◌, ℕ, zero, suc, ◌+◌, ◌-◌, ◌*◌, ◌^◌, ◌<◌, ◌≤◌, Bool, true, false, List, [], ◌∷◌, ◌++◌, length, length-append, append_assoc, refl, sym, ap, subst, ◌∙◌, arith, bit_xor}
+use Rattle.std.proofs.Common.{◌≡◌, ℕ, zero, suc, ◌+◌, ◌*◌, ◌^◌, ◌<◌, true, false, List, [], ◌∷◌, ◌++◌, length, length-append, append_assoc, refl, sym, ap, ◌∙◌, arith, bit_xor}
 use Rattle.std.proofs.lemmas.List.{append-nil}
 use Rattle.spec_bits.specs.Bits.{Bits, zeros, bits_of}
 use Rattle.spec_bits.proofs.BitsLaws.{length-bits_of, length-zeros}
-use Rattle.spec_checksums.specs.Polynomials.{differ, ◌⊕◌, poly_16, step, steps}
+use Rattle.spec_checksums.specs.Polynomials.{◌⊕◌, poly_16, step, steps}
 use Rattle.spec_checksums.proofs.Sums.{sum_assoc, sum_self, sum_zeros, zeros_sum, sum_append, length-sum, zeros_append}
 use Rattle.spec_checksums.proofs.Division.{steps_append, steps_sum, length-steps}
 use Rattle.flac_checksums.specs.Registers.{register, words_bits}

@@ -51,6 +51,9 @@ const NONE: Words = Words {
 /// How many bytes are folded at once.
 pub const BLOCK: usize = 32;
 
+/// As many bytes as the words are, after which each word has the name again that it began with: no word is moved.
+const ROUND: usize = 128;
+
 // The eight bytes from a place as one number, the first on top.
 #[inline(always)]
 fn word(bytes: &[u8], at: usize) -> u64
@@ -107,13 +110,29 @@ fn stepped(words: Words, bytes: &[u8], at: usize) -> Words
     step(third, word(bytes, at + 24))
 }
 
+// The words after the next four blocks.
+#[inline(always)]
+fn after_round(words: Words, bytes: &[u8], at: usize) -> Words
+    requires { at + 128 ≤ length bytes.now }
+    ensures { register (words_bits (words_of result)) ≡ steps poly_16 (register (words_bits (words_of words))) (all_bits (take 128 (drop at bytes.now))) }
+{
+    let first = stepped(words, bytes, at);
+    let second = stepped(first, bytes, at + 32);
+    let third = stepped(second, bytes, at + 64);
+    stepped(third, bytes, at + 96)
+}
+
 /// Words with the remainder of the bytes, which are whole blocks.
 pub fn folded(bytes: &[u8]) -> Words
     requires { length bytes.now % 32 ≡ 0 }
     ensures { register (words_bits (words_of result)) ≡ register (all_bits bytes.now) }
 {
     let mut words = NONE;
-    for block in 0..bytes.len() / BLOCK {
+    let rounds = bytes.len() / ROUND;
+    for round in 0..rounds {
+        words = after_round(words, bytes, ROUND * round);
+    }
+    for block in 4 * rounds..bytes.len() / BLOCK {
         words = stepped(words, bytes, BLOCK * block);
     }
     words

@@ -1,11 +1,9 @@
 -- Frames, read one part after the other.
-use Rattle.std.proofs.Common.{◌≡◌, ℕ, ◌-◌, ◌*◌, ◌%◌, ◌<◌, ◌≤◌, ℤ, List, [], ◌∷◌, length, true, false, eqb, Result, Ok, Err, refl, sym, ap, subst, ◌∙◌, arith, inl, inr}
+use Rattle.std.proofs.Common.{◌≡◌, ℕ, ◌<◌, ℤ, List, [], ◌∷◌, length, true, false, eqb, Result, Ok, Err, refl, sym, subst, ◌∙◌, arith, inl, inr}
 use Rattle.std.proofs.lemmas.Bool.{eq-eqb, ne_eqb}
-use Rattle.std.proofs.lemmas.List.{length-drop, drop_all, length-take-le}
 use Rattle.std.specs.Prelude.{OnOk, IfErr}
 use Rattle.spec_bits.specs.Bits.{Bits, all_bits}
-use Rattle.spec_bits.proofs.BitsLaws.{length-all_bits}
-use Rattle.spec_bits.specs.Cursor.{Cursor, bits_left, bits_before}
+use Rattle.spec_bits.specs.Cursor.{Cursor, bits_left}
 use Rattle.spec_syntax.specs.Syntax.{Syntax, End, ◌>>=◌}
 use Rattle.spec_syntax.specs.Reading.{read, start_of, Answers}
 use Rattle.spec_syntax.proofs.Reading.{bind_ok, bind_err}
@@ -16,7 +14,7 @@ use Rattle.spec_flac.specs.declared.fault.FlacFault.TheVariants as fault
 use Rattle.spec_flac.specs.declared.shape.FlacShape.{FlacShape}
 use Rattle.spec_flac.specs.Faults.{short}
 use Rattle.spec_flac.specs.Header.{header}
-use Rattle.spec_flac.specs.Frame.{frame, channels, one_channel, two_channels, frame_end, padding, footer, IsFrame, HasTail, IsFault, IsDecoded, missing}
+use Rattle.spec_flac.specs.Frame.{frame, channels, one_channel, two_channels, frame_end, padding, footer, IsFrame, HasTail, IsFault, IsDecoded}
 
 -- ---- the end
 

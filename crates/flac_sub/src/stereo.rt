@@ -4,59 +4,61 @@ ghost use Rattle.std.specs.Int.{int_div_euclid};
 ghost use Rattle.spec_bits.specs.Cursor.{Cursor};
 ghost use Rattle.spec_syntax.specs.Reading.{read, Answers};
 ghost use Rattle.spec_flac.specs.Faults.{short};
-ghost use Rattle.spec_flac.specs.Residual.{is_sample};
 ghost use Rattle.spec_flac.specs.Subframe.{half_of};
 ghost use Rattle.spec_flac.specs.Frame as table;
 ghost use Rattle.flac_subframes.specs.Rows.{AreSmall};
 
-use flac_subframes::half;
+use flac_subframes::{fits, half};
 use spec_flac::FlacFault;
 
+/// Half of the side, rounded up: what the left is above the middle.
 #[inline(always)]
-fn fits(half: i64, z: i64) -> bool
-    requires { unsigned_abs half ≤ 2 ^ 32 }
-    ensures { result ≡ is_sample half z }
+fn above(side: i64) -> i64
+    requires { unsigned_abs side ≤ 2 ^ 32 }
+    ensures is { result ≡ int_div_euclid (side +ℤ pos 1) (pos 2) }
+    ensures small { unsigned_abs result ≤ 2 ^ 32 }
 {
-    -half <= z && z < half
-}
-
-/// Twice the middle, with the bit that the side has too.
-#[inline(always)]
-fn middle(a: i64, b: i64) -> i64
-    requires a { unsigned_abs a ≤ 2 ^ 32 }
-    requires b { unsigned_abs b ≤ 2 ^ 32 }
-    ensures is { result ≡ table.middle a b }
-    ensures small { unsigned_abs result ≤ 2 ^ 34 }
-{
-    2 * a + b.rem_euclid(2)
+    (side + 1).div_euclid(2)
 }
 
 #[inline(always)]
 fn plus(a: i64, b: i64) -> i64
-    requires a { unsigned_abs a ≤ 2 ^ 34 }
+    requires a { unsigned_abs a ≤ 2 ^ 32 }
     requires b { unsigned_abs b ≤ 2 ^ 32 }
     ensures is { result ≡ a +ℤ b }
-    ensures small { unsigned_abs result ≤ 2 ^ 35 }
+    ensures small { unsigned_abs result ≤ 2 ^ 33 }
 {
     a + b
 }
 
 #[inline(always)]
 fn less(a: i64, b: i64) -> i64
-    requires a { unsigned_abs a ≤ 2 ^ 34 }
+    requires a { unsigned_abs a ≤ 2 ^ 33 }
     requires b { unsigned_abs b ≤ 2 ^ 32 }
-    ensures is { result ≡ a -ℤ b }
-    ensures small { unsigned_abs result ≤ 2 ^ 35 }
+    ensures { result ≡ a -ℤ b }
 {
     a - b
 }
 
+/// The left of a middle and a side.
 #[inline(always)]
-fn halved(sum: i64) -> i64
-    requires { unsigned_abs sum ≤ 2 ^ 35 }
-    ensures { result ≡ int_div_euclid sum (pos 2) }
+fn left(middle: i64, side: i64) -> i64
+    requires middle { unsigned_abs middle ≤ 2 ^ 32 }
+    requires side { unsigned_abs side ≤ 2 ^ 32 }
+    ensures is { result ≡ int_div_euclid (table.middle middle side +ℤ side) (pos 2) }
+    ensures small { unsigned_abs result ≤ 2 ^ 33 }
 {
-    sum.div_euclid(2)
+    plus(middle, above(side))
+}
+
+/// The right of a middle and a side.
+#[inline(always)]
+fn right(middle: i64, side: i64) -> i64
+    requires middle { unsigned_abs middle ≤ 2 ^ 32 }
+    requires side { unsigned_abs side ≤ 2 ^ 32 }
+    ensures { result ≡ int_div_euclid (table.middle middle side -ℤ side) (pos 2) }
+{
+    less(left(middle, side), side)
 }
 
 #[inline(always)]
@@ -71,7 +73,7 @@ fn left_of<const CODE: u32>(a: i64, b: i64) -> i64
     if CODE == 9 {
         return plus(a, b);
     }
-    halved(plus(middle(a, b), b))
+    left(a, b)
 }
 
 #[inline(always)]
@@ -86,10 +88,12 @@ fn right_of<const CODE: u32>(a: i64, b: i64) -> i64
     if CODE == 9 {
         return b;
     }
-    halved(less(middle(a, b), b))
+    right(a, b)
 }
 
-// Left and right in place of what two subframes hold, by one code.
+// Left and right in place of what two subframes hold, by one code. Kept out of its callers, so that its loop has all
+// registers.
+#[inline(never)]
 fn decorrelated_by<const CODE: u32>(
     depth: u32,
     first: &mut [i64],

@@ -1,19 +1,17 @@
 -- Reading partitions one after the other.
-use Rattle.std.proofs.Common.{◌≡◌, ℕ, zero, suc, ◌+◌, ◌-◌, ◌*◌, ◌/◌, ◌%◌, ◌^◌, ◌<◌, ◌≤◌, arith, refl, List, [], ◌∷◌, ◌++◌, unsigned_abs, ap, sym, ◌∙◌, length, ℤ, subst, Result, Ok, Err, true, false, eqb, ltb, inl, inr}
+use Rattle.std.proofs.Common.{◌≡◌, ℕ, suc, ◌+◌, ◌-◌, ◌*◌, ◌/◌, ◌%◌, ◌^◌, ◌<◌, ◌≤◌, arith, refl, List, ap, sym, ◌∙◌, length, ℤ, subst, Result, Ok, Err, true, false, eqb, ltb, inl, inr}
 use Rattle.std.proofs.lemmas.Bool.{eq-eqb, ne_eqb, lt-ltb, le-ltb, cases_lt}
 use Rattle.std.proofs.lemmas.Nat.{pow_below}
 use Rattle.std.proofs.Math.Nat.{mul-le-mul_left}
 use Rattle.spec_bits.specs.declared.FieldFault.TheVariants as field_fault
-use Rattle.spec_bits.specs.Form.{Number, Signed}
+use Rattle.spec_bits.specs.Form.{Number}
 use Rattle.spec_bits.specs.Cursor.{Cursor, field_at}
-use Rattle.spec_syntax.specs.Syntax.{Syntax, each, in_turn, field}
+use Rattle.spec_syntax.specs.Syntax.{Syntax, in_turn}
 use Rattle.spec_syntax.specs.Reading.{read, chain}
-use Rattle.spec_syntax.proofs.Reading.{read_bind, each_goes_on, each_steps, each_done}
+use Rattle.spec_syntax.proofs.Reading.{read_bind}
 use Rattle.spec_flac.specs.declared.fault.FlacFault.{FlacFault}
 use Rattle.spec_flac.specs.declared.fault.FlacFault.TheVariants as fault
 use Rattle.spec_flac.specs.Faults.{short}
-use Rattle.spec_flac.specs.Subframe.{verbatim}
-use Rattle.flac_subframes.specs.Rows.{AreBelow}
 use Rattle.spec_flac.specs.Residual.{samples, plain_residual, coded_residual, partition, partitions, residual}
 
 -- ---- one partition

@@ -10,10 +10,11 @@ mod linear;
 mod partition;
 mod predicted;
 mod predictor;
+mod range;
 mod row;
 mod scale;
 mod subframe;
 mod verbatim;
 
-pub use predicted::half;
+pub use range::{fits, half};
 pub use subframe::subframe_from;

@@ -7,8 +7,9 @@ ghost use Rattle.spec_flac.specs.Subframe.{back, summed, linear_prediction, line
 ghost use Rattle.flac_subframes.specs.Rows.{AreWithin};
 
 use crate::partition::residual_from;
-use crate::predicted::{half, warm_up};
+use crate::predicted::warm_up;
 use crate::predictor::Predictor;
+use crate::range::half;
 use crate::verbatim::verbatim_from;
 use flac_bits::Reader;
 use spec_flac::FlacFault;

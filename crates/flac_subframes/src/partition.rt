@@ -1,5 +1,5 @@
 //! Partitions of coded residuals, and the samples that they give.
-ghost use Rattle.std.specs.Prelude.{◌≡◌, ℕ, ◌+◌, ◌-◌, ◌*◌, ◌/◌, ◌%◌, ◌^◌, ◌<◌, ◌≤◌, ℤ, length, take, unsigned_abs, OnOk, IfOk};
+ghost use Rattle.std.specs.Prelude.{◌≡◌, ℕ, ◌+◌, ◌-◌, ◌*◌, ◌/◌, ◌%◌, ◌^◌, ◌<◌, ◌≤◌, ℤ, pos, ◌≤ℤ◌, length, take, unsigned_abs, OnOk, IfOk};
 ghost use Rattle.spec_bits.specs.Form.{Number};
 ghost use Rattle.spec_bits.specs.Cursor.{field_at};
 ghost use Rattle.spec_syntax.specs.Reading.{read, Answers};
@@ -50,6 +50,7 @@ fn partition_from<P: Predictor>(
     to: usize,
 ) -> Result<(), FlacFault>
     requires count { count ≤ 5 }
+    requires positive { pos 0 ≤ℤ half }
     requires half { unsigned_abs half ≤ 2 ^ 32 }
     requires order { P.order predictor.now ≤ from }
     requires range { from ≤ to }
@@ -87,6 +88,7 @@ fn partitions_from<P: Predictor>(
     from: usize,
 ) -> Result<(), FlacFault>
     requires bits { bits ≤ 5 }
+    requires positive { pos 0 ≤ℤ half }
     requires half { unsigned_abs half ≤ 2 ^ 32 }
     requires order { P.order predictor.now ≤ from }
     requires some { 1 ≤ count }
@@ -123,6 +125,7 @@ pub fn residual_from<P: Predictor>(
     row: &mut [i64],
     from: usize,
 ) -> Result<(), FlacFault>
+    requires positive { pos 0 ≤ℤ half }
     requires half { unsigned_abs half ≤ 2 ^ 32 }
     requires order { P.order predictor.now ≤ from }
     requires row { from ≤ length row.old }

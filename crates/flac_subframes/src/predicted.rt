@@ -7,20 +7,10 @@ ghost use Rattle.flac_subframes.specs.Rows.{AreWithin};
 
 use crate::partition::residual_from;
 use crate::predictor::Predictor;
+use crate::range::half;
 use crate::verbatim::verbatim_from;
 use flac_bits::Reader;
 use spec_flac::FlacFault;
-
-/// Half of the numbers of so many bits.
-#[inline]
-pub fn half(depth: u32) -> i64
-    requires low { 1 ≤ depth }
-    requires high { depth ≤ 33 }
-    ensures is { result ≡ half_of depth }
-    ensures small { unsigned_abs result ≤ 2 ^ 32 }
-{
-    (1u64 << (depth - 1)) as i64
-}
 
 /// So many numbers in two's complement, into the front of a row.
 pub fn warm_up(

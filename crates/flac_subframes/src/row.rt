@@ -1,28 +1,22 @@
 //! Samples from residuals.
-ghost use Rattle.std.specs.Prelude.{◌≡◌, ℕ, ◌+◌, ◌-◌, ◌*◌, ◌^◌, ◌<◌, ◌≤◌, ℤ, pos, ◌+ℤ◌, length, take, unsigned_abs, OnOk, IfOk, IfSome};
+ghost use Rattle.std.specs.Prelude.{◌≡◌, ℕ, ◌+◌, ◌-◌, ◌*◌, ◌^◌, ◌<◌, ◌≤◌, ℤ, pos, ◌+ℤ◌, ◌≤ℤ◌, length, take, unsigned_abs, OnOk, IfOk, IfSome};
 ghost use Rattle.spec_syntax.specs.Reading.{read, Answers};
 ghost use Rattle.spec_flac.specs.Faults.{short};
-ghost use Rattle.spec_flac.specs.Residual.{is_sample, sample, samples, coded_residual};
+ghost use Rattle.spec_flac.specs.Residual.{sample, samples, coded_residual};
 ghost use Rattle.flac_subframes.specs.Rows.{AreWithin, GoesOn, sample_or};
 
 use crate::code::{Code, Rice};
 use crate::predictor::Predictor;
+use crate::range::fits;
 use flac_bits::Reader;
 use spec_flac::FlacFault;
-
-#[inline(always)]
-fn fits(half: i64, z: i64) -> bool
-    requires { unsigned_abs half ≤ 2 ^ 32 }
-    ensures { result ≡ is_sample half z }
-{
-    -half <= z && z < half
-}
 
 /// The sum of a prediction and a residual, where it is a sample.
 #[inline(always)]
 fn summed(prediction: i64, value: i64, half: i64) -> Option<i64>
     requires prediction { unsigned_abs prediction < 2 ^ 60 }
     requires value { unsigned_abs value < 2 ^ 31 }
+    requires positive { pos 0 ≤ℤ half }
     requires half { unsigned_abs half ≤ 2 ^ 32 }
     ensures is { result ≡ sample_or half (prediction +ℤ value) }
     ensures small { IfSome result (λ z. unsigned_abs z ≤ unsigned_abs half) }
@@ -40,6 +34,7 @@ fn sample_from<C: Code>(
     half: i64,
 ) -> Result<i64, FlacFault>
     requires prediction { unsigned_abs prediction < 2 ^ 60 }
+    requires positive { pos 0 ≤ℤ half }
     requires half { unsigned_abs half ≤ 2 ^ 32 }
     ensures gives { Answers (λ z. (z, reader.new)) result (read short (sample half (C.residual code.now) prediction) reader.old) }
     ensures small { IfOk result (λ z. unsigned_abs z ≤ unsigned_abs half) }
@@ -54,8 +49,9 @@ fn sample_from<C: Code>(
     }
 }
 
-// Samples from the place `from` of the row to the first whose residual has no short code, or to the one before `to`;
-// the place after them.
+// Samples from the place `from` of the row to the first whose residual has no short code or may have no whole word ahead,
+// or to the one before `to`; the place after them. Kept out of its callers, so that its loop has all registers.
+#[inline(never)]
 fn near_samples<P: Predictor>(
     reader: &mut Reader<'_>,
     parameter: u32,
@@ -66,6 +62,7 @@ fn near_samples<P: Predictor>(
     to: usize,
 ) -> Result<usize, FlacFault>
     requires parameter { parameter ≤ 24 }
+    requires positive { pos 0 ≤ℤ half }
     requires half { unsigned_abs half ≤ 2 ^ 32 }
     requires order { P.order predictor.now ≤ from }
     requires range { from ≤ to }
@@ -80,8 +77,9 @@ fn near_samples<P: Predictor>(
         Some(near) => near,
         None => return Ok(from),
     };
+    let end = from + near.codes_ahead().min(to - from);
     let mut n = from;
-    while n < to {
+    while n < end {
         let prediction = predictor.predict(&row[..n]);
         let residual = match near.take_residual(parameter) {
             Some(residual) => residual,
@@ -108,6 +106,7 @@ pub fn rice_samples_from<P: Predictor>(
     to: usize,
 ) -> Result<(), FlacFault>
     requires parameter { parameter ≤ 24 }
+    requires positive { pos 0 ≤ℤ half }
     requires half { unsigned_abs half ≤ 2 ^ 32 }
     requires order { P.order predictor.now ≤ from }
     requires range { from ≤ to }
@@ -118,11 +117,13 @@ pub fn rice_samples_from<P: Predictor>(
 {
     let mut n = from;
     while n < to {
-        n = match near_samples(reader, parameter, predictor, half, row, n, to) {
-            Ok(n) => n,
+        let next = match near_samples(reader, parameter, predictor, half, row, n, to) {
+            Ok(next) => next,
             Err(fault) => return Err(fault),
         };
-        if n < to {
+        if next > n {
+            n = next;
+        } else {
             let prediction = predictor.predict(&row[..n]);
             match sample_from(&Rice { parameter }, reader, prediction, half) {
                 Ok(value) => row[n] = value,
@@ -144,6 +145,7 @@ pub fn samples_from<C: Code, P: Predictor>(
     from: usize,
     to: usize,
 ) -> Result<(), FlacFault>
+    requires positive { pos 0 ≤ℤ half }
     requires half { unsigned_abs half ≤ 2 ^ 32 }
     requires order { P.order predictor.now ≤ from }
     requires range { from ≤ to }

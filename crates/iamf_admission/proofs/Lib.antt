@@ -1,12 +1,14 @@
-pub mod Pigeons
-pub mod Pairs
-pub mod Balance
-pub mod Orderly
-pub mod Faulting
+pub mod Defining
+pub mod Definable
+pub mod Channels
+pub mod ChannelCounts
+pub mod CodecLengths
+pub mod CodecDepths
+pub mod MixIds
+pub mod ContentRoles
+pub mod UnitNumbers
+pub mod CopiesAdmitted
+pub mod OneMore
+pub mod SoundRoles
 pub mod Stepping
-pub mod UnitStepping
-pub mod UnitCount
-pub mod Admitting
-pub mod Starting
-pub mod Parts
-mod Examples
+pub mod TallyMore

@@ -1,8 +1,6 @@
-pub mod IdView
-pub mod Ends
-pub mod RoleViews
-pub mod Admitted
-pub mod DescriptorSteps
-pub mod UnitSteps
-pub mod AdmissionSteps
+pub mod Defining
+pub mod PartsView
+pub mod Numbers
+pub mod Taking
 pub mod Standing
+pub mod AdmissionView

@@ -1,17 +1,17 @@
-//! Which OBU may follow which in an IAMF sequence (IAMF 1.0.0, "IA Sequence Structure", "Temporal Unit", "IA Profiles").
+//! The admission of one OBU after another: each is read, tested after those before it, and taken in.
 #![tactic(auto)]
 
 mod admission;
-mod channels;
-mod descriptors;
-mod ends;
-mod ids;
-mod open_unit;
-mod profile;
-mod roles;
+mod admitted;
+mod definitions;
+mod kept;
+mod parts;
+mod role;
 #[cfg(test)]
 mod tests;
 
-pub use admission::{Admission, AdmitError};
-pub use profile::{fits_one, fits_two};
-pub use roles::{CodecRole, Known, Trim};
+pub use admission::Admission;
+pub use admitted::Admitted;
+
+/// Why an OBU is not admitted: its first fault, or that memory ran out.
+pub type AdmitError = iamf_bits::Unread<spec_values::Fault>;

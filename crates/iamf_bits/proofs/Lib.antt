@@ -4,3 +4,4 @@ pub mod Spelled
 pub mod Numbers
 pub mod Puts
 pub mod TextLoop
+pub mod Slices

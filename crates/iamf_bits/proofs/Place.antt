@@ -17,6 +17,11 @@ pub AreBytes-from : (xs : List ℕ) → ((i : ℕ) → get_or xs i 0 < 256) → 
 AreBytes-from [] h = tt
 AreBytes-from (x ∷ xs) h = (h 0, AreBytes-from xs (λ i. h (suc i)))
 
+pub AreBytes-take : (n : ℕ) (xs : List ℕ) → AreBytes xs → AreBytes (take n xs)
+AreBytes-take zero xs are = tt
+AreBytes-take (suc n) [] are = tt
+AreBytes-take (suc n) (x ∷ xs) are = (are.0, AreBytes-take n xs are.1)
+
 -- the place after `used` bits of the byte `at`, in a buffer that is read up to `end`
 abbrev pub cursor : List ℕ → ℕ → ℕ → ℕ → Cursor
 cursor buf end at used = record { bytes = take end buf; place = 8 * at + used }

@@ -1,4 +1,5 @@
 pub mod Front
+pub mod Outcome
 pub mod View
 pub mod Written
 pub mod Rows

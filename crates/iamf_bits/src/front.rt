@@ -1,6 +1,6 @@
 //! Fields at the front of bytes.
-ghost use Rattle.std.specs.Prelude.{◌≡◌, ◌<◌, ◌≤◌, ◌^◌, length, take, OnOk, IfOk};
-ghost use Rattle.spec_bits.specs.Bits.{AreBytes, all_bits, number_of, signed_of};
+ghost use Rattle.std.specs.Prelude.{◌≡◌, ◌<◌, ◌≤◌, ◌^◌, length, take};
+ghost use Rattle.spec_bits.specs.Bits.{all_bits, number_of, signed_of};
 ghost use Rattle.spec_bits.specs.ByteReading.{leb_at, text_at};
 ghost use Rattle.iamf_bits.specs.Front.{Fronts, FrontsText};
 
@@ -70,13 +70,4 @@ pub(crate) fn text(bytes: &[u8]) -> Result<usize, FieldFault>
         }
     }
     Err(FieldFault::Text)
-}
-
-// Gives the bytes back, which are below 256.
-#[inline]
-pub(crate) fn known(bytes: &[u8]) -> &[u8]
-    ensures same { result.now ≡ bytes.now }
-    ensures are { AreBytes result.now }
-{
-    bytes
 }

@@ -1,9 +1,10 @@
 ghost use Rattle.std.specs.Prelude.{◌≡◌, ◌+◌, ◌%◌, ◌^◌, ◌<◌, ◌≤◌, ◌++◌, [], length, take, IsUtf8, OnOk, OnErr};
 ghost use Rattle.spec_bits.specs.Bits.{all_bits, unsigned_of};
-ghost use Rattle.spec_bits.specs.Leb.{leb_bytes};
+ghost use Rattle.std.specs.List.{flat_map};
 ghost use Rattle.spec_bits.specs.Text.{HasNoZero};
 ghost use Rattle.spec_bits.specs.Form.{Number, Signed, Leb128, String, Bytes, Reserved, canonical};
 
+use crate::shortest_leb::ShortestLeb;
 use std::alloc::{AllocError, Global};
 use std::marker::Model;
 
@@ -40,21 +41,29 @@ fn unsigned(number: i16) -> u16
     }
 }
 
-// The shortest leb128 of a number, and how many bytes it takes.
-fn shortest(value: u32) -> ([u8; 5], usize)
-    ensures count { result.1 ≤ 5 }
-    ensures bytes { take result.1 result.0 ≡ leb_bytes value }
+// How many bytes the slices have together.
+fn total(slices: &[&[u8]]) -> usize
+    requires { length (flat_map (λ s. s.now) slices.now) < 2 ^ 63 }
+    ensures { result ≡ length (flat_map (λ s. s.now) slices.now) }
 {
-    let mut bytes = [0; 5];
-    let mut count = 0;
-    let mut rest = value;
-    while rest >= 128 {
-        bytes[count] = (rest % 128) as u8 + 128;
-        rest /= 128;
-        count += 1;
+    let mut sum = 0;
+    for slice in slices {
+        sum += slice.len();
     }
-    bytes[count] = rest as u8;
-    (bytes, count + 1)
+    sum
+}
+
+// Puts the bytes of each slice last, with room made for all of them before the first.
+fn extend_by_all(bytes: &mut Vec<u8>, slices: &[&[u8]]) -> Result<(), AllocError>
+    requires { length (flat_map (λ s. s.now) slices.now) < 2 ^ 63 }
+    ensures items { OnOk result (bytes.new.items ≡ bytes.old.items ++ flat_map (λ s. s.now) slices.now) }
+    ensures kept { OnErr result (bytes.new.items ≡ bytes.old.items) }
+{
+    bytes.reserve(total(slices))?;
+    for slice in slices {
+        bytes.extend_from_slice(slice)?;
+    }
+    Ok(())
 }
 
 impl Out {
@@ -117,8 +126,8 @@ impl Out {
         ensures used { OnOk result (self.new.used ≡ 0) }
         ensures kept { OnErr result (self.new ≡ self.old) }
     {
-        let (bytes, count) = shortest(value);
-        self.bytes.extend_from_slice(&bytes[..count])?;
+        let leb = ShortestLeb::new(value);
+        self.bytes.extend_from_slice(leb.as_slice())?;
         Ok(())
     }
 
@@ -130,6 +139,19 @@ impl Out {
         ensures kept { OnErr result (self.new ≡ self.old) }
     {
         self.bytes.extend_from_slice(bytes)?;
+        Ok(())
+    }
+
+    /// Puts the bytes of each slice as they are, one slice after the other, after whole bytes. Memory is asked for once,
+    /// before the first. They are fewer than 2^63 bytes together.
+    pub fn put_slices(&mut self, slices: &[&[u8]]) -> Result<(), AllocError>
+        requires used { self.old.used ≡ 0 }
+        requires few { length (flat_map (λ s. s.now) slices.now) < 2 ^ 63 }
+        ensures bits { OnOk result (self.new.bits ≡ self.old.bits ++ all_bits (flat_map (λ s. s.now) slices.now)) }
+        ensures used { OnOk result (self.new.used ≡ 0) }
+        ensures kept { OnErr result (self.new ≡ self.old) }
+    {
+        extend_by_all(&mut self.bytes, slices)?;
         Ok(())
     }
 

@@ -1,17 +1,18 @@
-use crate::{FieldFault, Out, View};
+use crate::{FieldFault, Out, ShortestLeb, Unread, View};
 use spec_bits::{plain_leb, plain_text};
+use std::alloc::AllocError;
 use std::test::*;
 
 // The leb128 at the front, and how many bytes it takes.
 fn leb_of(bytes: &[u8]) -> Result<(u32, usize), FieldFault> {
-    let mut view = View::new(bytes, 0, bytes.len());
+    let mut view = View::whole(bytes);
     let value = view.take_leb()?;
     Ok((value, view.at()))
 }
 
 // The text at the front, and how many bytes it takes.
 fn text_of(bytes: &[u8]) -> Result<(&[u8], usize), FieldFault> {
-    let mut view = View::new(bytes, 0, bytes.len());
+    let mut view = View::whole(bytes);
     let text = view.take_text()?;
     Ok((text, view.at()))
 }
@@ -141,6 +142,15 @@ fn a_view_is_a_part_of_its_buffer(rt: HostRuntime) -> Result<(), Fail> {
 }
 
 #[test]
+fn inside_a_byte_the_whole_bytes_after_it_are_left(rt: HostRuntime) {
+    let mut view = View::whole(&[0xac, 0x53, 0xff]);
+    for (bits, left) in [(7, 2), (1, 2), (1, 1), (14, 0), (1, 0)] {
+        assert_eq!(rt; view.skip_bits(bits), Ok(()));
+        assert_eq!(rt; view.left(), left);
+    }
+}
+
+#[test]
 fn the_rest_ends_with_the_part(rt: HostRuntime) -> Result<(), Fail> {
     let buffer = [0, 1, 2, 3, 4, 5, 6];
     let mut view = View::new(&buffer, 1, 6);
@@ -167,6 +177,25 @@ fn fields_are_put_one_after_the_other(rt: HostRuntime) -> Result<(), Fail> {
         b"\xa7\xff\xfe\xac\x02\x01\x02en\0".as_slice()
     );
     Ok(())
+}
+
+#[test]
+fn slices_are_put_one_after_the_other(rt: HostRuntime) -> Result<(), Fail> {
+    let mut out = Out::new(rt.alloc());
+    out.put_leb(300)?;
+    let number = ShortestLeb::new(128);
+    let none = ShortestLeb::none();
+    out.put_slices(&[number.as_slice(), b"ab", none.as_slice(), b"c"])?;
+    assert_eq!(rt; out.finish().as_slice(), b"\xac\x02\x80\x01abc".as_slice());
+    Ok(())
+}
+
+#[test]
+fn an_error_keeps_its_cause(rt: HostRuntime) {
+    let fault: Unread<FieldFault> = Unread::Fault(FieldFault::Leb);
+    assert!(rt; matches!(fault.map_fault(Some), Unread::Fault(Some(FieldFault::Leb))));
+    let memory: Unread<FieldFault> = Unread::from(AllocError);
+    assert!(rt; matches!(memory.map_fault(Some), Unread::Memory(_)));
 }
 
 #[test]

@@ -6,7 +6,8 @@ ghost use Rattle.spec_bits.specs.Cursor.{IsOnByte, moved, bits_left, bytes_left,
 ghost use Rattle.spec_bits.specs.Fault.{FormFault};
 ghost use Rattle.iamf_bits.specs.View.{Takes, TakesBytes, MovesPast};
 
-use crate::front::{known, leb, number, signed, text};
+use crate::bytes::as_bytes_below_256;
+use crate::front::{leb, number, signed, text};
 use spec_bits::FieldFault;
 use std::marker::Model;
 
@@ -50,6 +51,14 @@ impl<'a> View<'a> {
         }
     }
 
+    /// The whole of the buffer, from its first byte on.
+    #[inline]
+    pub fn whole(buffer: &'a [u8]) -> View<'a>
+        ensures { result ≡ record { bytes = buffer.now; place = 0 } }
+    {
+        View::new(buffer, 0, buffer.len())
+    }
+
     /// The place in the buffer, by whole bytes.
     #[inline]
     pub fn at(&self) -> usize
@@ -59,13 +68,14 @@ impl<'a> View<'a> {
         self.at
     }
 
-    /// How many whole bytes are left.
+    /// How many whole bytes are left. Inside a byte these are the ones after it.
     #[inline]
     pub fn left(&self) -> usize
-        requires { IsOnByte self.now }
-        ensures { result ≡ length (bytes_left self.now) }
+        ensures whole { result ≡ length (bits_left self.now) / 8 }
+        ensures bytes { IsOnByte self.now → result ≡ length (bytes_left self.now) }
     {
-        self.end - self.at
+        let left = self.end - self.at;
+        if self.used == 0 { left } else { left - 1 }
     }
 
     /// The bytes from the byte `start` of the buffer to the place.
@@ -73,9 +83,10 @@ impl<'a> View<'a> {
     pub fn since(&self, start: usize) -> &'a [u8]
         requires on_byte { IsOnByte self.now }
         requires within { start ≤ self.now.place / 8 }
-        ensures { result.now ≡ slice_range self.now.bytes start (self.now.place / 8) }
+        ensures range { result.now ≡ slice_range self.now.bytes start (self.now.place / 8) }
+        ensures below { AreBytes result.now }
     {
-        &self.buffer[start..self.at]
+        as_bytes_below_256(&self.buffer[start..self.at])
     }
 
     /// The next `n` bits, from 1 to 32, as a number, the most significant first. `Short` exactly where fewer
@@ -147,7 +158,7 @@ impl<'a> View<'a> {
         ensures onward { self.old.place ≤ self.new.place }
         ensures on_byte { IsOnByte self.new }
     {
-        match leb(known(&self.buffer[self.at..self.end])) {
+        match leb(as_bytes_below_256(&self.buffer[self.at..self.end])) {
             Ok((value, count)) => {
                 self.at += count;
                 Ok(value)
@@ -166,8 +177,9 @@ impl<'a> View<'a> {
         ensures takes { Takes (λ b. b.now) result self.old self.new (field_at (Bytes n) self.old) }
         ensures bytes { TakesBytes (λ b. b.now) result (bytes_left self.new) (bytes_at n (bytes_left self.old)) }
         ensures moves { OnOk result (self.new ≡ moved self.old (8 * n)) }
+        ensures below { IfOk result (λ b. AreBytes b.now) }
     {
-        let bytes = known(&self.buffer[self.at..self.end]);
+        let bytes = as_bytes_below_256(&self.buffer[self.at..self.end]);
         if bytes.len() < n {
             return Err(FieldFault::Short);
         }
@@ -188,8 +200,9 @@ impl<'a> View<'a> {
         ensures same { self.new.bytes ≡ self.old.bytes }
         ensures onward { self.old.place ≤ self.new.place }
         ensures on_byte { IsOnByte self.new }
+        ensures below { IfOk result (λ b. AreBytes b.now) }
     {
-        let bytes = known(&self.buffer[self.at..self.end]);
+        let bytes = as_bytes_below_256(&self.buffer[self.at..self.end]);
         match text(bytes) {
             Ok(count) => {
                 self.at += count + 1;
@@ -207,8 +220,9 @@ impl<'a> View<'a> {
         ensures bits { all_bits result.now ≡ bits_left self.old }
         ensures none { bytes_left self.new ≡ [] }
         ensures same { self.new.bytes ≡ self.old.bytes }
+        ensures below { AreBytes result.now }
     {
-        let bytes = &self.buffer[self.at..self.end];
+        let bytes = as_bytes_below_256(&self.buffer[self.at..self.end]);
         self.at = self.end;
         bytes
     }

@@ -2,18 +2,18 @@
 use Rattle.std.proofs.Common.{◌≡◌, ℕ, Bool, true, false, ◌&&◌, cond, eqb, List, [], ◌∷◌, ◌++◌, map, refl, sym, ap, subst, ◌∙◌, append-nil, eqb-true}
 use Rattle.std.specs.Prelude.{None}
 use Rattle.std.specs.List.{flat_map}
-use Rattle.spec_sequence.specs.Role.{Role, AudioFrame, FrameRole}
-use Rattle.spec_sequence.specs.Units.{contains, is_data, unit_after, stream_of, placed, in_unit, in_units, streams_in}
-use Rattle.spec_sequence.specs.Rules.{fault_after}
+use Rattle.spec_rules.specs.Role.{Role, AudioFrame, FrameRole}
+use Rattle.spec_rules.specs.Units.{contains, are_apart, is_data, unit_after, stream_of, placed, in_unit, in_units, streams_in}
+use Rattle.spec_rules.specs.Rules.{fault_after}
 use Rattle.spec_sequence.specs.Parts.{unit_value}
-use Rattle.spec_sequence.specs.Reading.{Entry, values_of, roles, Admitted}
-use Rattle.spec_sequence.proofs.NoFault.{frame_none}
+use Rattle.spec_rules.specs.Admitted.{IsAdmitted}
+use Rattle.spec_sequence.specs.Reading.{Entry, values_of, roles}
+use Rattle.spec_rules.proofs.NoFault.{frame_none}
 use Rattle.spec_sequence.proofs.Roles.{roles_of_values}
-use Rattle.spec_sequence.proofs.UnitLists.{streams_in-push}
-use Rattle.iamf_admission.proofs.Pigeons.{are_apart, apart_push}
-use Rattle.iamf_admission.proofs.Admitting.{by_all}
+use Rattle.spec_rules.proofs.UnitLists.{streams_in-push}
+use Rattle.spec_rules.proofs.DistinctIds.{apart_push}
+use Rattle.iamf_rules.proofs.Lawful.{by_all}
 use Rattle.iamf_sequence.proofs.Whole.{streams_are}
-use Rattle.iamf_sequence.proofs.RolesAdmitted.{roles_admitted}
 
 abbrev AreApart : List Role → Type 0
 AreApart l = (u : ℕ) → are_apart (streams_in u l) ≡ true
@@ -42,9 +42,9 @@ apart_none : AreApart []
 unfolding streams_in in_unit in_units placed
 apart_none u = refl
 
-streams_apart : (bytes : List ℕ) (l : List Entry) → Admitted bytes l → AreApart (roles l)
-streams_apart bytes l admitted = by_all AreApart apart_none (λ before o apart none. apart_more before o apart none.late) (roles l) (roles_admitted bytes l admitted)
+streams_apart : (l : List Role) → IsAdmitted l → AreApart l
+streams_apart l admitted = by_all AreApart apart_none (λ before o apart none. apart_more before o apart none.late) l admitted
 
 -- what a sort of each unit asks
-pub frames_apart : (bytes : List ℕ) (l : List Entry) → Admitted bytes l → (u : ℕ) → are_apart (map (λ f. f.substream) (unit_value u (values_of l)).frames) ≡ true
-frames_apart bytes l admitted u = ap are_apart (sym (streams_are u (values_of l)) ∙ ap (streams_in u) (roles_of_values l)) ∙ streams_apart bytes l admitted u
+pub frames_apart : (l : List Entry) → IsAdmitted (roles l) → (u : ℕ) → are_apart (map (λ f. f.substream) (unit_value u (values_of l)).frames) ≡ true
+frames_apart l admitted u = ap are_apart (sym (streams_are u (values_of l)) ∙ ap (streams_in u) (roles_of_values l)) ∙ streams_apart (roles l) admitted u

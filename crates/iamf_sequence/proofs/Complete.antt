@@ -4,17 +4,17 @@ use Rattle.std.specs.Prelude.{None}
 use Rattle.std.specs.List.{flat_map}
 use Rattle.std.proofs.lemmas.Bool.{cases_Bool, cases_lt, or_cases, or_left, not-false, false≢true}
 use Rattle.std.proofs.lemmas.List.Folds.{list_any-append}
-use Rattle.spec_sequence.specs.declared.fault.Fault.TheVariants as fault
-use Rattle.spec_sequence.specs.Role.{Role, Ignored, SequenceHeader, CodecConfig, AudioElement, MixPresentation, Delimiter, ParameterBlock, AudioFrame}
-use Rattle.spec_sequence.specs.Descriptors.{substreams, substreams_of}
-use Rattle.spec_sequence.specs.Units.{contains, is_none_of, is_data, stream_of, unit_after, open_unit, if_unit, placed, in_units, in_unit, streams_in, is_complete, unit_count}
-use Rattle.spec_sequence.specs.Rules.{fault_after, start_tests, has_short_unit, end_fault}
-use Rattle.spec_sequence.proofs.DescriptorLists.{substreams-more}
-use Rattle.spec_sequence.proofs.NoFault.{frame_none, last_none}
-use Rattle.spec_sequence.proofs.UnitLists.{streams_in-push, streams_in-none, complete_is}
-use Rattle.iamf_admission.specs.Admitted.{IsAdmitted}
-use Rattle.iamf_admission.proofs.Admitting.{balanced-admitted, counted-admitted, by_all}
-use Rattle.iamf_admission.proofs.Pigeons.{all_at}
+use Rattle.spec_values.specs.declared.fault.Fault.TheVariants as fault
+use Rattle.spec_rules.specs.Role.{Role, Ignored, SequenceHeader, CodecConfig, AudioElement, MixPresentation, Delimiter, ParameterBlock, AudioFrame}
+use Rattle.spec_rules.specs.Descriptors.{substreams, substreams_of}
+use Rattle.spec_rules.specs.Units.{contains, is_none_of, is_data, stream_of, unit_after, open_unit, if_unit, placed, in_units, in_unit, streams_in, is_complete, unit_count}
+use Rattle.spec_rules.specs.Rules.{fault_after, start_tests, has_short_unit, end_fault}
+use Rattle.spec_rules.proofs.DescriptorLists.{substreams-more}
+use Rattle.spec_rules.proofs.NoFault.{frame_none, last_none}
+use Rattle.spec_rules.proofs.UnitLists.{streams_in-push, streams_in-none, complete_is}
+use Rattle.spec_rules.specs.Admitted.{IsAdmitted}
+use Rattle.iamf_rules.proofs.Lawful.{lawful, by_all}
+use Rattle.spec_rules.proofs.DistinctIds.{all_at}
 
 -- ---- frames are of known substreams
 
@@ -93,11 +93,11 @@ complete_open l false whole is below = elim (cases_Bool (is_complete (open_unit 
 
 complete_unit : (l : List Role) (u : ℕ) → IsAdmitted l → end_fault l ≡ None → u < unit_count l → is_complete u l ≡ true
 complete_unit l u admitted whole below = elim (cases_lt u (open_unit l)) [
-  | inl closed ↦ (balanced-admitted l admitted).closed u closed
+  | inl closed ↦ (lawful l admitted).balanced.closed u closed
   | inr last ↦ ap (λ v. is_complete v l) (same last) ∙ complete_open l (is_none_of (in_unit (open_unit l) l)) whole refl (in_it last)
 ] where
   counted : unit_count l ≡ open_unit l + cond (is_none_of (in_unit (open_unit l) l)) 0 1
-  counted = counted-admitted l admitted
+  counted = (lawful l admitted).counted
 
   least : (b : Bool) → unit_count l ≡ open_unit l + cond b 0 1 → open_unit l ≤ u → u ≡ open_unit l
   least true count low = absurd (omega (arith, below))

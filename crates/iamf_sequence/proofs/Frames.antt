@@ -13,13 +13,13 @@ use Rattle.std.proofs.lemmas.List.{get_or-map, length-map}
 use Rattle.std.proofs.lemmas.List.Elements.{All-map, All-get_or, All-from_get_or}
 use Rattle.std.proofs.lemmas.List.Sorted.{IsNonDecreasingBy-from_sort, IsPermutation-map, length_permutation, searchable_from_sorted}
 use Rattle.std.proofs.lemmas.Map.Keys.{IsDistinct-IsPermutation, apart_from_distinct}
-use Rattle.spec_sequence.specs.Units.{contains}
+use Rattle.spec_rules.specs.Units.{contains, are_apart}
 use Rattle.spec_sequence.specs.Parts.{FrameValue}
-use Rattle.spec_sequence.proofs.Basics.{flip}
-use Rattle.iamf_admission.proofs.Pigeons.{are_apart, apart_parts}
+use Rattle.spec_rules.proofs.Basics.{flip}
+use Rattle.spec_rules.proofs.DistinctIds.{apart_parts}
 use Rattle.obu_data.specs.declared.frame.FrameView.{FrameView}
 use Rattle.iamf_sequence.specs.declared.unit.Unit as temporal
-use Rattle.iamf_sequence.specs.UnitView.{view_frame, view_unit, HasTrim, frame_with, AreIncreasing, IsUnit}
+use Rattle.iamf_sequence.specs.UnitView.{view_frame, view_unit, IsConsistent, frame_with, AreIncreasing, IsUnit}
 
 abbrev pub key : FrameView → ℕ
 key f = f.substream
@@ -154,17 +154,18 @@ increasing old new moves up apart = from_rising new strict where
 
 -- a sorted unit stands for what it stood for
 sorted_unit : (u : temporal.Unit) (new : temporal.Unit) → new.trim ≡ u.trim → new.blocks ≡ u.blocks → IsPermutation u.frames.items new.frames.items → IsSortedByKey key nat_cmp new.frames.items
-    → IsStableByKey key nat_cmp u.frames.items new.frames.items → are_apart (map (λ (f : FrameValue). f.substream) (view_unit u).frames) ≡ true → HasTrim u → IsUnit new (view_unit u)
+    → IsStableByKey key nat_cmp u.frames.items new.frames.items → are_apart (map (λ (f : FrameValue). f.substream) (view_unit u).frames) ≡ true → IsConsistent u → IsUnit new (view_unit u)
 sorted_unit u new trim blocks moves sorted stable apart has = record {
-  trim = rw trim has;
+  trim = rw trim has.trim;
   increasing = increasing u.frames.items new.frames.items moves (IsNonDecreasingBy-from_sort key new.frames.items sorted) apart;
   frames = same_found u.frames.items new.frames.items (length_permutation u.frames.items new.frames.items moves) stable;
   blocks = rw blocks refl;
+  opaque = rw blocks has.opaque;
 }
 
 -- what a sort by the substream says, unless memory ran out
 pub sort_says : {E F : Type 0} (r : Result (Unit {0}) E) (g : Mut F (Bor FrameView × Unit {0}) ℕ) (f : F) (u new : temporal.Unit) → new.trim ≡ u.trim → new.blocks ≡ u.blocks
     → IsPermutation u.frames.items new.frames.items → ComputesKey g key f → OnOk r (IsSortedByKeyClosure g nat_cmp f new.frames.items) → IsStableByKey key nat_cmp u.frames.items new.frames.items
-    → OnOk r (are_apart (map (λ (f : FrameValue). f.substream) (view_unit u).frames) ≡ true → HasTrim u → IsUnit new (view_unit u))
+    → OnOk r (are_apart (map (λ (f : FrameValue). f.substream) (view_unit u).frames) ≡ true → IsConsistent u → IsUnit new (view_unit u))
 sort_says (Ok done) g f u new trim blocks moves computes sorted stable = sorted_unit u new trim blocks moves (sorted key computes) stable
 sort_says (Err e) g f u new trim blocks moves computes sorted stable = tt

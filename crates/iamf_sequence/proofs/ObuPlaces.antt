@@ -4,9 +4,9 @@ use Rattle.std.specs.Prelude.{Some, slice_get}
 use Rattle.std.proofs.lemmas.List.{take-append-drop, drop-drop}
 use Rattle.std.proofs.Math.Seq.{take-add}
 use Rattle.spec_obu.specs.Header.{Head, Header}
-use Rattle.spec_sequence.specs.Value.{Spells}
+use Rattle.spec_values.specs.Value.{Spells}
 use Rattle.spec_sequence.specs.Reading.{Entry, context_after, AdmittedAfter, Admitted}
-use Rattle.spec_sequence.proofs.Obus.{same_first}
+use Rattle.spec_values.proofs.Obus.{same_first}
 use Rattle.obu_header.specs.declared.view.ObuView.{ObuView}
 use Rattle.obu_header.specs.View.{head_of}
 use Rattle.iamf_sequence.specs.declared.parts.Placed.{Placed}

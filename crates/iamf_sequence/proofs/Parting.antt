@@ -5,14 +5,15 @@ use Rattle.std.specs.List.{flat_map}
 use Rattle.std.proofs.lemmas.Bool.{cases_lt}
 use Rattle.std.proofs.lemmas.Bool.Decides.{nat_tests}
 use Rattle.std.proofs.lemmas.Grind.{flat_map-append}
-use Rattle.spec_sequence.specs.Value.{ObuValue}
-use Rattle.spec_sequence.specs.Role.{Role, role}
-use Rattle.spec_sequence.specs.Units.{is_data, unit_after, unit_count}
+use Rattle.spec_values.specs.Value.{ObuValue}
+use Rattle.spec_rules.specs.Role.{Role}
+use Rattle.spec_sequence.specs.ValueRole.{role}
+use Rattle.spec_rules.specs.Units.{is_data, unit_after, unit_count}
 use Rattle.spec_sequence.specs.Parts.{roles_of, frame_of, block_of, numbered_after, if_of_unit, obus_of, UnitValue, unit_value, units_up_to, temporal_units}
-use Rattle.spec_sequence.proofs.Placing.{unit_count-push}
+use Rattle.spec_rules.proofs.Placing.{unit_count-push}
 use Rattle.spec_sequence.proofs.Roles.{roles_of_more}
 use Rattle.iamf_sequence.specs.UnitView.{opened, change_last}
-use Rattle.iamf_sequence.specs.KeptView.{HasNoLater}
+use Rattle.iamf_sequence.specs.ContentsView.{HasNoLater}
 
 -- ---- the OBUs of a unit
 

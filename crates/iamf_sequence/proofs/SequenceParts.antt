@@ -2,13 +2,17 @@
 use Rattle.std.proofs.Common.{◌≡◌, ℕ, zero, suc, ◌<◌, List, [], ◌∷◌, length, get_or, map, refl, sym, ap, subst, ◌∙◌, arith}
 use Rattle.std.specs.Prelude.{Some, slice_get, option_map}
 use Rattle.std.proofs.lemmas.Option.{slice_get-map, slice_get-get_or}
+use Rattle.std.specs.List.{All}
 use Rattle.std.proofs.lemmas.List.{length-map}
-use Rattle.spec_sequence.specs.Units.{unit_count}
+use Rattle.std.proofs.lemmas.List.Elements.{All-get_or}
+use Rattle.spec_rules.specs.Units.{unit_count}
 use Rattle.spec_sequence.specs.Parts.{UnitValue, audio_elements, mix_presentations, temporal_units}
 use Rattle.spec_sequence.specs.Reading.{Entry, values_of, roles}
 use Rattle.spec_sequence.proofs.Roles.{roles_of_values}
 use Rattle.obu_header.specs.declared.view.ObuView.{ObuView}
 use Rattle.obu_descriptors.specs.ElementView.{view_element}
+use Rattle.obu_descriptors.specs.declared.audio_element.AudioElement.{AudioElement}
+use Rattle.iamf_sequence.specs.ContentsView.{IsElement}
 use Rattle.obu_mix.specs.MixView.{view_mix}
 use Rattle.iamf_sequence.specs.declared.unit.Unit as temporal
 use Rattle.iamf_sequence.specs.declared.parts.Placed.{Placed}
@@ -50,6 +54,9 @@ pub found_at : {X Y : Type 0} (f : X → Y) (xs zs : List X) (ys : List Y) (i : 
 found_at {X} {Y} f xs zs ys i x same is below are =
     ap (λ (l : List Y). slice_get l i) (sym are) ∙ slice_get-map f xs i
     ∙ ap (option_map f) (slice_get-get_or xs i x below ∙ ap Some (sym (is ∙ ap (λ (l : List X). get_or l i x) same)))
+
+pub valid_at : (xs ys : List AudioElement) (i : ℕ) (x : AudioElement) → ys ≡ xs → x ≡ get_or ys i x → i < length xs → All IsElement xs → IsElement x
+valid_at xs ys i x same is below valid = subst IsElement (sym (is ∙ ap (λ (zs : List AudioElement). get_or zs i x) same)) (All-get_or IsElement xs i x below valid)
 
 -- ---- a unit by its number
 

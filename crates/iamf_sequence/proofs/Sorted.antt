@@ -2,10 +2,11 @@
 use Rattle.std.proofs.Common.{◌≡◌, ℕ, suc, ◌<◌, true, List, [], ◌∷◌, length, map, get_or, sym, ap, ◌∙◌, arith}
 use Rattle.std.proofs.lemmas.List.{get_or-map, length-map}
 use Rattle.std.proofs.lemmas.Option.{get_or_from_slice_get}
-use Rattle.spec_sequence.specs.Value.{ObuValue}
+use Rattle.spec_values.specs.Value.{ObuValue}
 use Rattle.spec_sequence.specs.Parts.{UnitValue, unit_value, temporal_units}
-use Rattle.spec_sequence.specs.Reading.{Entry, values_of, Admitted}
-use Rattle.iamf_admission.proofs.Pigeons.{are_apart}
+use Rattle.spec_sequence.specs.Reading.{Entry, values_of, roles}
+use Rattle.spec_rules.specs.Units.{are_apart}
+use Rattle.spec_rules.specs.Admitted.{IsAdmitted}
 use Rattle.iamf_sequence.specs.declared.unit.Unit.{Unit as Temporal}
 use Rattle.iamf_sequence.specs.UnitView.{view_unit, IsUnit, AreUnits}
 use Rattle.iamf_sequence.proofs.Parting.{length-temporal_units}
@@ -19,9 +20,9 @@ unit_at us s i d are lt =
     ∙ get_or_from_slice_get (temporal_units s) i (unit_value i s) (view_unit d) (unit_is s i (omega (arith, sym (length-map us view_unit), ap length are, length-temporal_units s)))
 
 -- what a sort of it asks
-pub unit_apart : (bytes : List ℕ) (l : List Entry) (us : List Temporal) (i : ℕ) (d : Temporal) → Admitted bytes l → map view_unit us ≡ temporal_units (values_of l) → i < length us
+pub unit_apart : (l : List Entry) (us : List Temporal) (i : ℕ) (d : Temporal) → IsAdmitted (roles l) → map view_unit us ≡ temporal_units (values_of l) → i < length us
     → are_apart (map (λ f. f.substream) (view_unit (get_or us i d)).frames) ≡ true
-unit_apart bytes l us i d admitted are lt = ap (λ (v : UnitValue). are_apart (map (λ f. f.substream) v.frames)) (unit_at us (values_of l) i d are lt) ∙ frames_apart bytes l admitted i
+unit_apart l us i d admitted are lt = ap (λ (v : UnitValue). are_apart (map (λ f. f.substream) v.frames)) (unit_at us (values_of l) i d are lt) ∙ frames_apart l admitted i
 
 -- each was sorted
 pub are_units : (old new : List Temporal) → length new ≡ length old → ((i : ℕ) (d : Temporal) → i < length old → IsUnit (get_or new i d) (view_unit (get_or old i d))) → AreUnits new (map view_unit old)

@@ -2,12 +2,12 @@
 use Rattle.std.proofs.Common.{◌≡◌, ℕ, zero, suc, ◌<◌, List, [], ◌∷◌, ◌++◌, length, get_or, map, take, refl, sym, ap, subst, ◌∙◌, append_assoc, append-nil}
 use Rattle.std.specs.Prelude.{Option, Some, None, option_map, slice_get}
 use Rattle.std.proofs.lemmas.Option.{slice_get-map, slice_get-get_or}
-use Rattle.spec_sequence.specs.Role.{Role}
-use Rattle.spec_sequence.specs.Units.{unit_at, unit_of}
+use Rattle.spec_rules.specs.Role.{Role}
+use Rattle.spec_rules.specs.Units.{unit_at, unit_of}
 use Rattle.spec_sequence.specs.Reading.{roles}
 use Rattle.iamf_sequence.specs.declared.parts.Placed.{Placed}
 use Rattle.iamf_sequence.specs.declared.parts.Parts.{Parts}
-use Rattle.iamf_sequence.specs.ReaderView.{number_after}
+use Rattle.iamf_admission.specs.Numbers.{number_after}
 use Rattle.iamf_sequence.specs.SequenceValue.{SequenceValue}
 use Rattle.iamf_sequence.specs.SequenceView.{numbers_after, IsSequence}
 use Rattle.iamf_sequence.proofs.SequenceParts.{obus_counted}

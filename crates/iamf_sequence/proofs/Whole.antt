@@ -4,11 +4,13 @@ use Rattle.std.specs.Prelude.{Some, slice_get, if◌then◌else◌, ◌==◌}
 use Rattle.std.specs.List.{flat_map}
 use Rattle.std.proofs.lemmas.Bool.{cases_Bool, cases_lt, false≢true}
 use Rattle.std.proofs.lemmas.List.{map-append}
-use Rattle.spec_sequence.specs.Content.{Content, Header, Codec, Element, Mix, Block, Frame, Nothing}
+use Rattle.spec_values.specs.Content.{Content, Header, Codec, Element, Mix, Block, Frame, Nothing}
 use Rattle.spec_obu.specs.Header.{Head}
-use Rattle.spec_sequence.specs.Value.{ObuValue}
-use Rattle.spec_sequence.specs.Role.{Role, role, role_in}
-use Rattle.spec_sequence.specs.Units.{is_data, stream_of, trim_of, unit_after, placed_after, placed, if_unit, in_units, in_unit, streams_in, trims_in, unit_count}
+use Rattle.spec_obu.specs.Kinds.{obu_type_of}
+use Rattle.spec_values.specs.Value.{ObuValue}
+use Rattle.spec_rules.specs.Role.{Role}
+use Rattle.spec_sequence.specs.ValueRole.{role, role_in}
+use Rattle.spec_rules.specs.Units.{is_data, stream_of, unit_after, placed_after, placed, if_unit, in_units, in_unit, streams_in, unit_count}
 use Rattle.spec_sequence.specs.Parts.{roles_of, FrameValue, frame_in, frame_of, numbered_after, if_of_unit, obus_of, UnitValue, unit_value, units_up_to, temporal_units}
 use Rattle.spec_sequence.proofs.Roles.{nothing_of}
 use Rattle.iamf_sequence.proofs.Parting.{length-units_up_to}
@@ -40,15 +42,6 @@ map-flat_map {X} f (o ∷ os) = ap (λ (xs : List X). map f (frame_of o) ++ xs) 
 
 -- ---- frames
 
-trims_of : (h : Head) (c : Content) (tail : List ℕ) → h.redundant ≡ false → trim_of (role_in h c tail) ≡ map (λ f. f.trim) (frame_in h c tail)
-trims_of h (Header x) tail plain = rw plain refl
-trims_of h (Codec x) tail plain = rw plain refl
-trims_of h (Element x) tail plain = rw plain refl
-trims_of h (Mix x) tail plain = rw plain refl
-trims_of h (Block x) tail plain = rw plain refl
-trims_of h (Frame x) tail plain = rw plain refl
-trims_of h Nothing tail plain = rw plain (nothing_of trim_of refl refl h.kind)
-
 streams_of : (h : Head) (c : Content) (tail : List ℕ) → h.redundant ≡ false → stream_of (role_in h c tail) ≡ map (λ f. f.substream) (frame_in h c tail)
 streams_of h (Header x) tail plain = rw plain refl
 streams_of h (Codec x) tail plain = rw plain refl
@@ -56,17 +49,11 @@ streams_of h (Element x) tail plain = rw plain refl
 streams_of h (Mix x) tail plain = rw plain refl
 streams_of h (Block x) tail plain = rw plain refl
 streams_of h (Frame x) tail plain = rw plain refl
-streams_of h Nothing tail plain = rw plain (nothing_of stream_of refl refl h.kind)
+streams_of h Nothing tail plain = rw plain (nothing_of stream_of refl refl (obu_type_of h.kind))
 
 -- a data OBU is no redundant copy
 data_is_plain : (o : ObuValue) → is_data (role o) ≡ true → o.head.redundant ≡ false
 data_is_plain o e = elim (cases_Bool o.head.redundant) [ inl copy ↦ absurd (false≢true (rw copy at e)) | inr plain ↦ plain ]
-
-pub trims_are : (u : ℕ) (s : List ObuValue) → trims_in u (roles_of s) ≡ map (λ f. f.trim) (unit_value u s).frames
-unfolding trims_in in_unit in_units placed obus_of
-trims_are u s =
-    in_unit_is trim_of (λ o. map (λ f. f.trim) (frame_of o)) (λ o e. trims_of o.head o.content o.tail (data_is_plain o e)) u [] s
-    ∙ map-flat_map (λ f. f.trim) (flat_map (if_of_unit u) (numbered_after [] s))
 
 pub streams_are : (u : ℕ) (s : List ObuValue) → streams_in u (roles_of s) ≡ map (λ f. f.substream) (unit_value u s).frames
 unfolding streams_in in_unit in_units placed obus_of

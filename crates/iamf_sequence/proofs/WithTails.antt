@@ -6,10 +6,10 @@ use Rattle.spec_descriptors.specs.SequenceHeader.{SequenceHeaderFields}
 use Rattle.spec_descriptors.specs.CodecConfig.{CodecConfigFields}
 use Rattle.spec_descriptors.specs.AudioElement.{AudioElementFields}
 use Rattle.spec_descriptors.specs.MixPresentation.{MixPresentationFields}
-use Rattle.spec_sequence.specs.Content.{Content}
-use Rattle.spec_sequence.specs.Value.{ObuValue}
+use Rattle.spec_values.specs.Content.{Content}
+use Rattle.spec_values.specs.Value.{ObuValue}
 use Rattle.spec_sequence.specs.Parts.{of_plain, header_in, codec_in, element_in, mix_in, sequence_headers, codec_configs, audio_elements, mix_presentations}
-use Rattle.spec_sequence.proofs.Basics.{unmapped}
+use Rattle.spec_rules.proofs.Basics.{unmapped}
 use Rattle.iamf_sequence.specs.Tails.{with_tail, with_tails}
 
 first_of : {X : Type 0} (tail : List ℕ) (xs : List X) → map (λ (p : X × List ℕ). p.0) (map (λ (x : X). let y : X × List ℕ = (x, tail) in y) xs) ≡ xs

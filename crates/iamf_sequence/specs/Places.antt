@@ -3,10 +3,10 @@ use Rattle.std.specs.Prelude.{◌≡◌, ◌+◌, ◌-◌, ◌<◌, ℕ, List, [
 use Rattle.spec_obu.specs.Header.{Header}
 use Rattle.obu_header.specs.declared.view.ObuView.{ObuView}
 use Rattle.obu_header.specs.View.{head_of}
-use Rattle.spec_sequence.specs.declared.fault.Fault.{Fault}
+use Rattle.spec_values.specs.declared.fault.Fault.{Fault}
 use Rattle.spec_sequence.specs.Reading.{Entry, Admitted, Refuses}
-use Rattle.iamf_admission.specs.declared.admission.AdmitError.{AdmitError}
-use Rattle.iamf_admission.specs.declared.admission.AdmitError.TheVariants as admit
+use Rattle.iamf_bits.specs.declared.unread.Unread.{Unread}
+use Rattle.iamf_bits.specs.declared.unread.Unread.TheVariants as unread
 use Rattle.iamf_sequence.specs.declared.refusal.DecodeError.{DecodeError}
 use Rattle.iamf_sequence.specs.declared.refusal.DecodeError.TheVariants as errors
 use Rattle.iamf_sequence.specs.SequenceValue.{SequenceValue}
@@ -15,14 +15,19 @@ abbrev pub refused_at : ℕ → Fault → DecodeError
 refused_at at fault = errors.Refused (record { at = at; fault = fault })
 
 -- the OBU at this place is not taken in
-abbrev pub not_taken_at : ℕ → AdmitError → DecodeError
-not_taken_at at (admit.Fault f) = refused_at at f
-not_taken_at at (admit.Memory e) = errors.Memory e
+abbrev pub not_taken_at : ℕ → Unread Fault → DecodeError
+not_taken_at at (unread.Fault f) = refused_at at f
+not_taken_at at (unread.Memory e) = errors.Memory e
 
 -- the bytes are refused at this place for this fault, unless memory ran out
 abbrev pub IsRefused : List ℕ → DecodeError → Type 0
 IsRefused bytes (errors.Refused r) = Refuses bytes r.at r.fault
 IsRefused bytes (errors.Memory e) = Unit {0}
+
+-- memory ran out
+abbrev pub IsMemory : DecodeError → Type 0
+IsMemory (errors.Refused r) = ⊥
+IsMemory (errors.Memory e) = Unit {0}
 
 -- From a place to another the bytes are OBUs one after the other, with nothing between: each view is at its place, and the
 -- bytes there are a header with these fields and then this payload (IAMF 1.0.0, "OBU Header Syntax and Semantics").

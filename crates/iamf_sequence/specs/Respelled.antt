@@ -1,7 +1,7 @@
 -- The canonical spelling of the OBUs that were read.
 use Rattle.std.specs.Prelude.{◌≡◌, List}
 use Rattle.spec_bits.specs.Bits.{AreBytes, all_bits}
-use Rattle.spec_sequence.specs.Canonical.{encoded}
+use Rattle.spec_values.specs.Canonical.{encoded}
 use Rattle.spec_sequence.specs.Reading.{Entry, values_of}
 use Rattle.iamf_sequence.specs.declared.respelling.Respelling.{Respelling}
 

@@ -1,6 +1,6 @@
 -- What contracts see of a sequence: its bytes, and the OBUs of which they are spellings.
 use Rattle.std.specs.Prelude.{◌≡◌, ℕ, List, None}
-use Rattle.spec_sequence.specs.Rules.{end_fault}
+use Rattle.spec_rules.specs.Rules.{end_fault}
 use Rattle.spec_sequence.specs.Reading.{Entry, roles, Admitted}
 
 -- The bytes are spellings of these OBUs one after the other, and the OBUs are a sequence.

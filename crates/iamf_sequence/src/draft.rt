@@ -2,17 +2,17 @@
 
 ghost use Rattle.std.specs.Prelude.{List, ℕ, []};
 
-use crate::kept::Kept;
+use crate::contents::Contents;
 use crate::parts::Placed;
-use crate::reader::{Admitted, Reader};
 use crate::walk::Gather;
+use iamf_admission::{Admission, Admitted};
 use obu_header::ObuView;
 use std::alloc::{AllocError, Global};
 
-/// The OBUs that were read, and what is kept of them.
+/// The OBUs that were read, and what they say.
 #[derive(Drop)]
 pub(crate) struct Draft<'a> {
-    pub(crate) kept: Kept<'a>,
+    pub(crate) contents: Contents<'a>,
     pub(crate) obus: Vec<Placed<'a>>,
 }
 
@@ -24,7 +24,7 @@ impl<'a> Draft<'a> {
         ensures { (bytes : List ℕ) → IsPlaced result bytes 0 [] }
     {
         Draft {
-            kept: Kept::new(alloc),
+            contents: Contents::new(alloc),
             obus: Vec::new(alloc),
         }
     }
@@ -38,12 +38,12 @@ impl<'a> Gather<'a> for Draft<'a> {
     fn take(
         &mut self,
         alloc: Global,
-        _reader: &Reader<'a>,
+        _admission: &Admission,
         view: &ObuView<'a>,
         obu: Admitted<'a>,
     ) -> Result<(), AllocError> {
         let Admitted { content, unit } = obu;
-        self.kept.keep(alloc, content, unit)?;
+        self.contents.keep(alloc, content, unit)?;
         self.obus.push(Placed { view: *view, unit })?;
         Ok(())
     }

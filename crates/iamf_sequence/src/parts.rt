@@ -1,7 +1,7 @@
 //! What a sequence is made of.
 
 use crate::unit::Unit;
-use obu_data::Definitions;
+use iamf_admission::Admission;
 use obu_descriptors::{AudioElement, CodecConfig, SequenceHeader};
 use obu_header::ObuView;
 use obu_mix::MixPresentation;
@@ -11,7 +11,7 @@ use obu_mix::MixPresentation;
 pub struct Placed<'a> {
     pub(crate) view: ObuView<'a>,
     /// The number of its temporal unit, where it has one.
-    pub(crate) unit: Option<usize>,
+    pub(crate) unit: Option<u64>,
 }
 
 /// What is kept of the OBUs of a sequence.
@@ -23,8 +23,6 @@ pub struct Parts<'a> {
     pub(crate) elements: Vec<AudioElement<'a>>,
     pub(crate) mixes: Vec<MixPresentation<'a>>,
     pub(crate) units: Vec<Unit<'a>>,
-    /// The parameter definitions of the elements and the mixes.
-    pub(crate) definitions: Definitions,
-    /// The number of samples of a channel that no trim leaves out.
-    pub(crate) kept: u64,
+    /// It admitted all of them, and knows the parameter definitions and the number of samples.
+    pub(crate) admission: Admission,
 }

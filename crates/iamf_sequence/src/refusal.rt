@@ -1,11 +1,12 @@
 //! Why bytes are no sequence, and where.
 
 ghost use Rattle.std.specs.Prelude.{◌≡◌};
-ghost use Rattle.spec_sequence.specs.Code.{code_of};
-ghost use Rattle.iamf_sequence.specs.Places.{refused_at, not_taken_at};
+ghost use Rattle.spec_values.specs.Code.{code_of};
+ghost use Rattle.iamf_sequence.specs.Places.{refused_at, not_taken_at, IsMemory};
 
 use iamf_admission::AdmitError;
-use spec_sequence::Fault;
+use iamf_bits::Unread;
+use spec_values::Fault;
 use std::alloc::AllocError;
 use thiserror::Error;
 
@@ -38,6 +39,18 @@ pub enum DecodeError {
     Memory(AllocError),
 }
 
+impl DecodeError {
+    /// That memory ran out, where nothing is wrong with the bytes.
+    pub(crate) fn memory(self) -> AllocError
+        requires { IsMemory self }
+    {
+        match self {
+            DecodeError::Memory(error) => error,
+            DecodeError::Refused(_) => unreachable!(),
+        }
+    }
+}
+
 /// The answer to bytes whose first fault stands at the place.
 pub(crate) fn refused(at: usize, fault: Fault) -> DecodeError
     ensures { result ≡ refused_at at fault }
@@ -53,7 +66,7 @@ pub(crate) fn not_taken(at: usize, error: AdmitError) -> DecodeError
     ensures { result ≡ not_taken_at at error }
 {
     match error {
-        AdmitError::Fault(fault) => refused(at, fault),
-        AdmitError::Memory(error) => DecodeError::Memory(error),
+        Unread::Fault(fault) => refused(at, fault),
+        Unread::Memory(error) => DecodeError::Memory(error),
     }
 }

@@ -1,17 +1,18 @@
 //! Writing bytes canonically without keeping what they say.
 
-ghost use Rattle.std.specs.Prelude.{◌≡◌, ◌≤◌, ◌^◌, List, [], length, IfOk, IfErr};
-ghost use Rattle.spec_sequence.specs.Value.{ObuValue};
-ghost use Rattle.spec_sequence.specs.Canonical.{encoded};
+ghost use Rattle.std.specs.Prelude.{◌≡◌, ◌≤◌, ◌^◌, ℕ, List, [], ◌∷◌, ◌++◌, length, OnOk, IfOk, IfErr};
+ghost use Rattle.spec_values.specs.Value.{ObuValue};
+ghost use Rattle.spec_values.specs.Canonical.{encoded};
 ghost use Rattle.spec_sequence.specs.Reading.{Entry, Reads, values_of};
 ghost use Rattle.iamf_sequence.specs.Places.{IsRefused};
+ghost use Rattle.iamf_sequence.specs.Walking.{IsOneMore};
 
-use crate::content::known;
 use crate::encoding::put_obu;
-use crate::reader::{Admitted, Reader};
 use crate::refusal::DecodeError;
 use crate::walk::{Gather, walk};
-use iamf_bits::Out;
+use iamf_admission::{Admission, Admitted};
+use iamf_bits::{Out, as_bytes_below_256};
+use iamf_obu::write_obu_of;
 use obu_header::ObuView;
 use std::alloc::{AllocError, Global};
 
@@ -33,14 +34,39 @@ impl Respelling {
         }
     }
 
+    /// Puts the next OBU, which the admission admitted. An `Err` comes only where memory runs out.
+    fn put(
+        &mut self,
+        alloc: Global,
+        admission: &Admission,
+        view: &ObuView<'_>,
+        obu: &Admitted<'_>,
+    ) -> Result<(), AllocError>
+        requires { (bytes : List ℕ) × (at : ℕ) × (l : List Entry) × (e : Entry) × IsRespelled self.old l × IsOneMore bytes at admission.now view.now obu.now l e }
+        ensures { OnOk result ((bytes : List ℕ) (at : ℕ) (l : List Entry) (e : Entry) → IsRespelled self.old l → IsOneMore bytes at admission.now view.now obu.now l e
+            → IsRespelled self.new (l ++ e ∷ [])) }
+    {
+        let Some(definitions) = admission.definitions() else {
+            unreachable!()
+        };
+        match &obu.content {
+            Some(content) => write_obu_of(alloc, &mut self.out, &view.head, content, definitions),
+            // Of a redundant copy nothing is handed out.
+            None => {
+                let frame_length = u32::from(admission.frame_length());
+                put_obu(alloc, &mut self.out, view, frame_length, definitions)
+            }
+        }
+    }
+
     /// The bytes.
     fn finish(self) -> Vec<u8>
         requires { self.out.used ≡ 0 }
         ensures { (l : List Entry) → IsRespelled self l → result.items ≡ encoded (values_of l) }
     {
-        let encoded = self.out.finish();
-        let _encoded = known(encoded.as_slice());
-        encoded
+        let spellings = self.out.finish();
+        let _spellings = as_bytes_below_256(spellings.as_slice());
+        spellings
     }
 }
 
@@ -52,21 +78,20 @@ impl<'a> Gather<'a> for Respelling {
     fn take(
         &mut self,
         alloc: Global,
-        reader: &Reader<'a>,
+        admission: &Admission,
         view: &ObuView<'a>,
-        _obu: Admitted<'a>,
+        obu: Admitted<'a>,
     ) -> Result<(), AllocError> {
-        let rules = &reader.rules;
-        let frame_length = u32::from(rules.frame_length());
-        put_obu(alloc, &mut self.out, view, frame_length, &rules.definitions)
+        self.put(alloc, admission, view, &obu)
     }
 }
 
 /// Reads the bytes, of which there are at most 2^40, as a sequence, and answers the canonical spellings of its OBUs one after
 /// the other: the same as `decode` and `encode`. It keeps no OBU, so it needs less memory.
 ///
-/// `Refused` comes exactly where the bytes are no sequence, and tells the first fault and the place of its OBU, or the
-/// number of the bytes where it is a fault of their end. `Memory` comes only where memory runs out.
+/// # Errors
+/// `Refused` exactly where the bytes are no sequence, with the first fault and the place of its OBU, or the number of the
+/// bytes where it is a fault of their end. `Memory` only where memory runs out.
 pub fn respell(alloc: Global, buffer: &[u8]) -> Result<Vec<u8>, DecodeError>
     requires { length buffer.now ≤ 2 ^ 40 }
     ensures respells { IfOk result (λ v. (s : List ObuValue) × Reads buffer.now s × (v.items ≡ encoded s)) }

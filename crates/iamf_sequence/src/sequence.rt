@@ -1,23 +1,26 @@
 //! Sequences of OBUs.
-ghost use Rattle.std.specs.Prelude.{◌≡◌, ◌<◌, [], ◌∷◌, length, slice_get, Some, List, ℕ, is_some};
+ghost use Rattle.std.specs.Prelude.{◌≡◌, ◌<◌, ◌≤◌, ◌^◌, [], ◌∷◌, length, slice_get, Some, List, ℕ, is_some};
 ghost use Rattle.spec_descriptors.specs.CodecConfig.{CodecConfigFields};
-ghost use Rattle.spec_sequence.specs.Units.{unit_of, unit_count, contains};
-ghost use Rattle.spec_sequence.specs.Descriptors.{substreams};
+ghost use Rattle.spec_rules.specs.Units.{unit_of, unit_count, contains};
+ghost use Rattle.spec_rules.specs.Descriptors.{substreams};
+ghost use Rattle.spec_rules.specs.Descriptors as descriptors;
 ghost use Rattle.spec_sequence.specs.Parts.{UnitValue, header_in, codec_in, element_in, mix_in, sequence_headers, codec_configs, audio_elements, mix_presentations, temporal_units};
-ghost use Rattle.spec_sequence.specs.Report.{kept};
 ghost use Rattle.spec_sequence.specs.Reading.{values_of, roles};
+ghost use Rattle.spec_report.specs.Report.{kept};
 ghost use Rattle.obu_descriptors.specs.HeaderView.{view_header};
 ghost use Rattle.obu_descriptors.specs.CodecView.{StandsForCodec};
 ghost use Rattle.obu_descriptors.specs.ElementView.{view_element};
-ghost use Rattle.obu_mix.specs.MixView.{view_mix};
+ghost use Rattle.obu_mix.specs.MixView.{view_mix, tail_of, IsValidMix};
 ghost use Rattle.iamf_sequence.specs.Places.{IsObuAt};
 ghost use Rattle.iamf_sequence.specs.SequenceValue.{IsRead};
 ghost use Rattle.iamf_sequence.specs.Tails.{with_tails};
 ghost use Rattle.iamf_sequence.specs.UnitView.{IsUnit, frame_with};
+ghost use Rattle.iamf_sequence.specs.ContentsView.{IsElement};
 
 use crate::parts::Parts;
 use crate::reading::Reading;
 use crate::unit::Unit;
+use obu_data::Definitions;
 use obu_descriptors::{AudioElement, CodecConfig, SequenceHeader};
 use obu_header::ObuView;
 use obu_mix::MixPresentation;
@@ -90,6 +93,7 @@ impl<'a> Sequence<'a> {
         requires { i < length (audio_elements (values_of self.now.entries)) }
         ensures says { slice_get (audio_elements (values_of self.now.entries)) i ≡ Some (view_element result.now) }
         ensures tail { slice_get (with_tails element_in (values_of self.now.entries)) i ≡ Some (view_element result.now, result.now.tail.now) }
+        ensures valid { IsElement result.now }
     {
         &self.parts.elements.as_slice()[i]
     }
@@ -101,11 +105,12 @@ impl<'a> Sequence<'a> {
         self.parts.mixes.as_slice().len()
     }
 
-    /// Mix presentation `i`, counted from 0.
+    /// Mix presentation `i`, counted from 0. Its tags are those that its tail has.
     pub fn mix(&self, i: usize) -> &MixPresentation<'a>
         requires { i < length (mix_presentations (values_of self.now.entries)) }
         ensures says { slice_get (mix_presentations (values_of self.now.entries)) i ≡ Some (view_mix result.now) }
-        ensures tail { slice_get (with_tails mix_in (values_of self.now.entries)) i ≡ Some (view_mix result.now, result.now.tail.now) }
+        ensures tail { slice_get (with_tails mix_in (values_of self.now.entries)) i ≡ Some (view_mix result.now, tail_of result.now) }
+        ensures valid { IsValidMix result.now }
     {
         &self.parts.mixes.as_slice()[i]
     }
@@ -133,13 +138,24 @@ impl<'a> Sequence<'a> {
     pub fn kept(&self) -> u64
         ensures { result ≡ kept (roles self.now.entries) }
     {
-        self.parts.kept
+        self.parts.admission.samples()
+    }
+
+    /// The parameter definitions of the elements and the mixes.
+    pub fn definitions(&self) -> &Definitions
+        ensures { result.now ≡ descriptors.definitions (roles self.now.entries) }
+    {
+        match self.parts.admission.definitions() {
+            Some(definitions) => definitions,
+            None => unreachable!(),
+        }
     }
 
     /// The bytes that the sequence was read from.
     pub fn bytes(&self) -> &'a [u8]
         ensures same { result.now ≡ self.now.bytes }
         ensures reads { IsRead result.now self.now.entries }
+        ensures short { length result.now ≤ 2 ^ 40 }
     {
         self.reading.bytes()
     }
@@ -151,6 +167,13 @@ impl<'a> Sequence<'a> {
     {
         let obus = self.parts.obus.as_slice();
         prove!(i < obus.len());
-        obus[i].unit
+        index_of(obus[i].unit)
     }
+}
+
+/// The number of a unit as an index, which has 64 bits too.
+fn index_of(unit: Option<u64>) -> Option<usize>
+    ensures { result ≡ unit }
+{
+    unit.map(|unit| unit as usize)
 }

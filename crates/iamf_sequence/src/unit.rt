@@ -1,12 +1,12 @@
 //! Temporal units (IAMF 1.0.0, "Temporal Unit").
 
 ghost use Rattle.std.specs.Prelude.{◌≡◌, true, [], ◌<◌, map, length, slice_index_or, OnOk};
+ghost use Rattle.spec_rules.specs.Units.{are_apart};
 ghost use Rattle.spec_sequence.specs.Parts.{UnitValue};
-ghost use Rattle.iamf_admission.proofs.Pigeons.{are_apart};
 ghost use Rattle.iamf_sequence.specs.UnitView.{view_frame, AreIncreasing, frame_with, FindsFrame};
 
 use obu_data::{FrameView, ParameterBlock};
-use obu_header::Trim;
+use spec_obu::Trim;
 use std::alloc::{AllocError, Global};
 
 /// A temporal unit: a frame of each substream, and parameter blocks.
@@ -20,12 +20,12 @@ pub struct Unit<'a> {
 }
 
 impl<'a> Unit<'a> {
-    ghost use Rattle.iamf_sequence.specs.UnitView.{view_trim, view_block_value, view_unit, HasTrim, with_frame, with_block, IsUnit, first_trim};
+    ghost use Rattle.iamf_sequence.specs.UnitView.{view_block_value, view_unit, HasNoOpaqueTail, IsConsistent, with_frame, with_block, IsUnit, first_trim};
 
     /// A unit of nothing.
     pub(crate) fn new(alloc: Global) -> Unit<'a>
         ensures is { view_unit result ≡ record { frames = []; blocks = [] } }
-        ensures trim { HasTrim result }
+        ensures consistent { IsConsistent result }
     {
         Unit {
             trim: Trim { end: 0, start: 0 },
@@ -37,7 +37,7 @@ impl<'a> Unit<'a> {
     /// Puts a frame last. An `Err` comes only where memory runs out.
     pub(crate) fn push_frame(&mut self, frame: FrameView<'a>) -> Result<(), AllocError>
         ensures is { OnOk result (view_unit self.new ≡ with_frame frame.entry (view_unit self.old)) }
-        ensures trim { OnOk result (HasTrim self.old → HasTrim self.new) }
+        ensures consistent { OnOk result (IsConsistent self.old → IsConsistent self.new) }
     {
         if self.frames.is_empty() {
             self.trim = frame.trim;
@@ -49,7 +49,7 @@ impl<'a> Unit<'a> {
     /// Puts a block last. An `Err` comes only where memory runs out.
     pub(crate) fn push_block(&mut self, block: ParameterBlock<'a>) -> Result<(), AllocError>
         ensures is { OnOk result (view_unit self.new ≡ with_block block.entry (view_unit self.old)) }
-        ensures trim { OnOk result (HasTrim self.old → HasTrim self.new) }
+        ensures consistent { OnOk result (HasNoOpaqueTail block.entry → IsConsistent self.old → IsConsistent self.new) }
     {
         self.blocks.push(block)?;
         Ok(())
@@ -57,14 +57,14 @@ impl<'a> Unit<'a> {
 
     /// Sorts the frames by their substreams, as finding one needs. An `Err` comes only where memory runs out.
     pub(crate) fn sort(&mut self) -> Result<(), AllocError>
-        ensures { OnOk result (are_apart (map (λ f. f.substream) (view_unit self.old).frames) ≡ true → HasTrim self.old → IsUnit self.new (view_unit self.old)) }
+        ensures { OnOk result (are_apart (map (λ f. f.substream) (view_unit self.old).frames) ≡ true → IsConsistent self.old → IsUnit self.new (view_unit self.old)) }
     {
         self.frames.sort_by_key(|frame| frame.substream)
     }
 
     /// How many samples of each frame of the unit a player leaves out at its end and at its start.
     pub fn trim(&self) -> Trim
-        ensures { (v : UnitValue) → IsUnit self.now v → view_trim result ≡ first_trim v.frames }
+        ensures { (v : UnitValue) → IsUnit self.now v → result ≡ first_trim v.frames }
     {
         self.trim
     }
@@ -84,10 +84,12 @@ impl<'a> Unit<'a> {
         self.blocks.as_slice().len()
     }
 
-    /// Parameter block `i`, counted from 0 in the order in which they stand.
+    /// Parameter block `i`, counted from 0 in the order in which they stand. One of no known parameter has no tail: all its
+    /// bytes are in its content.
     pub fn block(&self, i: usize) -> &ParameterBlock<'a>
         requires { i < length self.now.blocks.items }
-        ensures { (v : UnitValue) → IsUnit self.now v → view_block_value result.now ≡ slice_index_or v.blocks i (view_block_value result.now) }
+        ensures says { (v : UnitValue) → IsUnit self.now v → view_block_value result.now ≡ slice_index_or v.blocks i (view_block_value result.now) }
+        ensures opaque { (v : UnitValue) → IsUnit self.now v → HasNoOpaqueTail result.now }
     {
         &self.blocks.as_slice()[i]
     }

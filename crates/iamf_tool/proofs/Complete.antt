@@ -1,10 +1,20 @@
 -- A run that did not fail ends as the bytes say.
-use Rattle.std.proofs.Common.{◌≡◌, ℕ, ◌+◌, ◌^◌, ◌≤◌, ◌++◌, inl, inr, List, length, Option, Some, None, refl, sym, subst, arith, ap, ◌∙◌, append-nil, length-append}
+use Rattle.std.proofs.Common.{◌≡◌, ◌⊎◌, true, ℕ, ◌+◌, ◌^◌, ◌≤◌, ◌++◌, inl, inr, List, length, Option, Some, None, refl, sym, subst, arith, ap, ◌∙◌, append-nil, length-append}
 use Rattle.std.specs.Prelude.{IfSome}
 use Rattle.std.specs.Io.KnownBytes.{Consumes, IsAtEnd}
 use Rattle.iamf_io.specs.Whole.{TakesCount}
 use Rattle.spec_obu.proofs.OneOutcome.{excluded}
 use Rattle.spec_sequence.proofs.OneAnswer.{reads_is_not_refused}
+use Rattle.spec_values.specs.declared.fault.Fault.{Fault}
+use Rattle.spec_values.specs.Code.{code_of}
+use Rattle.spec_values.specs.Value.{ObuValue}
+use Rattle.spec_sequence.specs.Reading.{Reads, Refuses}
+use Rattle.spec_boxes.specs.Laws.{BoxRefuses}
+use Rattle.spec_boxes.proofs.Answer.{one_answer as box_answer}
+use Rattle.spec_bodies.specs.SequenceFile.{values_of, IsFileOf, IsBareOf}
+use Rattle.spec_bodies.proofs.Sequences.{sequence_reads}
+use Rattle.spec_bodies.proofs.BodyLaws.{one_bare}
+use Rattle.iamf_tool.specs.declared.command.Conversion.TheVariants as conversion
 use Rattle.iamf_tool.specs.declared.command.Command.{Command}
 use Rattle.iamf_tool.specs.declared.command.Command.TheVariants as command
 use Rattle.iamf_tool.specs.declared.status.Status.{Status}
@@ -13,11 +23,24 @@ use Rattle.iamf_tool.specs.Outcome.{Output, Refusal, Outcome}
 use Rattle.iamf_tool.specs.Ends.{Side, Ran, IsDone, IsRefused, IsCutOff, WasRead, Ends}
 use Rattle.iamf_tool.specs.Complete.{CompletesOn, Completes}
 
+-- bytes that have a file are not refused
+no_file : (b output : List ℕ) (place : ℕ) (fault : Fault) → IsFileOf b output → Refuses b place fault → ⊥
+no_file b output place fault is refuses =
+    reads_is_not_refused b (values_of is.obus) place fault (subst (λ (bytes : List ℕ). Reads bytes (values_of is.obus)) (sym is.bytes_are) (sequence_reads is.obus is.are)) refuses
+
+-- no rule on boxes fails of a file with a bare sequence, and that is one
+no_bare : (f output : List ℕ) (place code : ℕ) → IsBareOf f output → (s : List ObuValue) → Reads output s → BoxRefuses f place code ⊎ ((bare : List ℕ) × IsBareOf f bare × (fault : Fault) × Refuses bare place fault × (code ≡ code_of fault)) → ⊥
+no_bare f output place code is s reads (inl refuses) = (box_answer true f).exclusive is.config is.samples place code is.holds refuses
+no_bare f output place code is s reads (inr r) =
+    reads_is_not_refused output s place r.2 reads (subst (λ (bytes : List ℕ). Refuses bytes place r.2) (one_bare f r.0 output r.1 is) r.3)
+
 -- no command gives both an output and a refusal
 one_kind : (c : Command) (b output : List ℕ) (place code : ℕ) → Outcome c b (Output output) → Outcome c b (Refusal place code) → ⊥
-one_kind command.List b output place code lists refuses = excluded 0 b output place refuses.0 lists refuses.1
 one_kind command.Check b output place code reads refuses = reads_is_not_refused b reads.0 place refuses.0 reads.1 refuses.1
-one_kind command.Canon b output place code reads refuses = reads_is_not_refused b reads.0 place refuses.0 reads.1 refuses.1
+one_kind (command.Convert conversion.List) b output place code lists refuses = excluded 0 b output place refuses.0 lists refuses.1
+one_kind (command.Convert conversion.Canon) b output place code reads refuses = reads_is_not_refused b reads.0 place refuses.0 reads.1 refuses.1
+one_kind (command.Convert conversion.Mux) b output place code is refuses = no_file b output place refuses.0 is refuses.1
+one_kind (command.Convert conversion.Demux) b output place code gives refuses = no_bare b output place code gives.0 gives.1 gives.2 refuses
 
 -- what is so of the bytes that were read is so of those that the source told
 told : (o after : Option (List ℕ)) (bytes : List ℕ) (Q : List ℕ → Type 0) → Consumes o after bytes → IsAtEnd after → Q bytes → IfSome o Q

@@ -1,3 +1,6 @@
+pub mod Concluded
+pub mod HalfChecked
+pub mod Checked
 pub mod Lines
 pub mod Listed
 pub mod Complete

@@ -6,8 +6,6 @@ use Rattle.std.specs.Borrow.{Bor}
 use Rattle.std.specs.Fmt.{decimal}
 use Rattle.spec_obu.specs.Header.{Head}
 use Rattle.spec_obu.specs.Listing.{line, mark}
-use Rattle.obu_header.specs.declared.view.Trim.{Trim}
-use Rattle.obu_header.specs.View.{trim_of}
 
 regrouped : (old at kind len space r t x end : List ℕ)
     → (((old ++ (at ++ space)) ++ (kind ++ space)) ++ (len ++ space)) ++ (r ++ (t ++ (x ++ end))) ≡ old ++ (at ++ (space ++ kind) ++ (space ++ len) ++ (space ++ r) ++ t ++ x ++ end)
@@ -29,10 +27,6 @@ line_is old one two three all at len redundant trimmed extended h first second t
     let parts : all ≡ (((old ++ (decimal at ++ 32 ∷ [])) ++ (decimal h.kind ++ 32 ∷ [])) ++ (decimal len ++ 32 ∷ [])) ++ redundant ∷ trimmed ∷ extended ∷ 10 ∷ [] = rw (last, third, second, first) refl in
     parts ∙ assembled old (decimal at) (decimal h.kind) (decimal len) redundant trimmed extended
     ∙ ap (λ (xs : List ℕ). old ++ xs) (with_marks (decimal at ++ 32 ∷ decimal h.kind ++ 32 ∷ decimal len) (redundant ∷ []) (trimmed ∷ []) (extended ∷ []) (mark 114 h.redundant) (mark 116 (is_some h.trim)) (mark 120 (is_some h.extension)) r t x)
-
-pub is_some-trim_of : (t : Option Trim) → is_some t ≡ is_some (trim_of t)
-is_some-trim_of None = refl
-is_some-trim_of (Some t) = refl
 
 pub is_some-copied : (x : Option (Bor (List ℕ))) → is_some x ≡ is_some (option_copied x)
 is_some-copied None = refl

@@ -1,7 +1,7 @@
 -- What is said of each refusal is said of one.
 use Rattle.std.proofs.Common.{ℕ, List}
 use Rattle.std.specs.Prelude.{Result, Ok, Err, IfOk}
-use Rattle.spec_sequence.specs.Value.{ObuValue}
+use Rattle.spec_values.specs.Value.{ObuValue}
 use Rattle.iamf_sequence.specs.declared.refusal.DecodeError.{DecodeError}
 use Rattle.iamf_sequence.specs.Places.{IsRefused}
 use Rattle.iamf_tool.specs.declared.answer.Answer.{Answer}

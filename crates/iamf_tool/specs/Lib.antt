@@ -4,3 +4,4 @@ pub mod Outcome
 pub mod Answers
 pub mod Ends
 pub mod Complete
+pub mod Checks

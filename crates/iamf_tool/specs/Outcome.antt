@@ -1,14 +1,18 @@
 -- What each command gives for its input: an output, or the place and the number of the first fault.
-use Rattle.std.specs.Prelude.{◌≡◌, ℕ, List}
+use Rattle.std.specs.Prelude.{◌≡◌, ◌⊎◌, ℕ, List}
 use Rattle.spec_obu.specs.declared.HeaderFault.{HeaderFault}
 use Rattle.spec_obu.specs.Code as headers
 use Rattle.spec_obu.specs.Listing as listing
-use Rattle.spec_sequence.specs.declared.fault.Fault.{Fault}
-use Rattle.spec_sequence.specs.Code.{code_of}
-use Rattle.spec_sequence.specs.Value.{ObuValue}
+use Rattle.spec_values.specs.declared.fault.Fault.{Fault}
+use Rattle.spec_values.specs.Code.{code_of}
+use Rattle.spec_values.specs.Value.{ObuValue}
 use Rattle.spec_sequence.specs.Reading.{Reads, Refuses}
-use Rattle.spec_sequence.specs.Report.{report}
-use Rattle.spec_sequence.specs.Canonical.{encoded}
+use Rattle.spec_report.specs.Report.{report}
+use Rattle.spec_values.specs.Canonical.{encoded}
+use Rattle.spec_boxes.specs.Laws.{BoxRefuses}
+use Rattle.spec_bodies.specs.SequenceFile.{IsFileOf, IsBareOf}
+use Rattle.iamf_tool.specs.declared.command.Conversion.{Conversion}
+use Rattle.iamf_tool.specs.declared.command.Conversion.TheVariants as conversion
 use Rattle.iamf_tool.specs.declared.command.Command.{Command}
 use Rattle.iamf_tool.specs.declared.command.Command.TheVariants as command
 
@@ -26,7 +30,24 @@ abbrev pub SequenceGives : (List ObuValue → List ℕ) → List ℕ → Given �
 SequenceGives made bytes (Output output) = (s : List ObuValue) × Reads bytes s × (output ≡ made s)
 SequenceGives made bytes (Refusal place code) = (fault : Fault) × Refuses bytes place fault × (code ≡ code_of fault)
 
+-- the MP4 file of the sequence that the bytes are, or the first fault of bytes that are none
+abbrev pub MuxGives : List ℕ → Given → Type 0
+MuxGives bytes (Output output) = IsFileOf bytes output
+MuxGives bytes (Refusal place code) = (fault : Fault) × Refuses bytes place fault × (code ≡ code_of fault)
+
+-- the bare sequence in a file, which reads, or the first rule on boxes that fails, or the first fault of the bare sequence
+abbrev pub DemuxGives : List ℕ → Given → Type 0
+DemuxGives f (Output output) = IsBareOf f output × (s : List ObuValue) × Reads output s
+DemuxGives f (Refusal place code) =
+    BoxRefuses f place code ⊎ ((bare : List ℕ) × IsBareOf f bare × (fault : Fault) × Refuses bare place fault × (code ≡ code_of fault))
+
+-- what is made of a whole input
+abbrev pub Converts : Conversion → List ℕ → Given → Type 0
+Converts conversion.List bytes given = ListingGives bytes given
+Converts conversion.Canon bytes given = SequenceGives encoded bytes given
+Converts conversion.Mux bytes given = MuxGives bytes given
+Converts conversion.Demux bytes given = DemuxGives bytes given
+
 abbrev pub Outcome : Command → List ℕ → Given → Type 0
-Outcome command.List bytes given = ListingGives bytes given
 Outcome command.Check bytes given = SequenceGives report bytes given
-Outcome command.Canon bytes given = SequenceGives encoded bytes given
+Outcome (command.Convert c) bytes given = Converts c bytes given

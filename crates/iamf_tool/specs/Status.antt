@@ -1,7 +1,15 @@
 -- The exit status of each way to end, and what is noted of it.
 use Rattle.std.specs.Prelude.{ℕ, List, [], ◌∷◌, ◌++◌, codes}
+use Rattle.iamf_io.specs.declared.whole.ReadError.{ReadError}
+use Rattle.iamf_io.specs.declared.whole.ReadError.TheVariants as failure
 use Rattle.iamf_tool.specs.declared.status.Status.{Status}
 use Rattle.iamf_tool.specs.declared.status.Status.TheVariants.{Done, Refused, Usage, Memory, ReadFault, WriteFault, TooLarge}
+
+-- of an input that was not read
+abbrev pub status_of : ReadError → Status
+status_of failure.Failed = ReadFault
+status_of failure.TooLarge = TooLarge
+status_of (failure.Memory e) = Memory
 
 abbrev pub status_number : Status → ℕ
 status_number Done = 0

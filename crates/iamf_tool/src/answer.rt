@@ -1,11 +1,11 @@
-ghost use Rattle.std.specs.Prelude.{◌≤◌, ◌^◌, length, IfOk};
-ghost use Rattle.iamf_tool.specs.Outcome.{Outcome};
+ghost use Rattle.std.specs.Prelude.{ℕ, List, IfOk};
+ghost use Rattle.spec_values.specs.Value.{ObuValue};
+ghost use Rattle.iamf_sequence.specs.Places.{IsRefused};
+ghost use Rattle.iamf_tool.specs.Outcome.{SequenceGives};
 ghost use Rattle.iamf_tool.specs.Answers.{view_answer};
 
-use crate::checking::{canon, check};
-use crate::command::Command;
-use crate::listing::list_lines;
-use std::alloc::{AllocError, Global};
+use iamf_sequence::DecodeError;
+use std::alloc::AllocError;
 
 /// What a command gives for its input.
 #[derive(Debug, Drop)]
@@ -16,14 +16,15 @@ pub enum Answer {
     Refusal { at: u64, code: u32 },
 }
 
-/// What the command gives for these bytes, of which there are at most 2^30.
-pub fn answer_of(alloc: Global, command: Command, bytes: &[u8]) -> Result<Answer, AllocError>
-    requires { length bytes.now ≤ 2 ^ 30 }
-    ensures { IfOk result (λ a. Outcome command bytes.now (view_answer a)) }
+/// The answer to bytes that are no sequence. An `Err` says that there is no memory.
+pub fn answer_to(error: DecodeError) -> Result<Answer, AllocError>
+    ensures { IfOk result (λ a. (made : List ObuValue → List ℕ) (bytes : List ℕ) → IsRefused bytes error → SequenceGives made bytes (view_answer a)) }
 {
-    match command {
-        Command::List => list_lines(alloc, bytes),
-        Command::Check => check(alloc, bytes),
-        Command::Canon => canon(alloc, bytes),
+    match error {
+        DecodeError::Refused(refusal) => Ok(Answer::Refusal {
+            at: refusal.at,
+            code: refusal.code(),
+        }),
+        DecodeError::Memory(error) => Err(error),
     }
 }

@@ -1,10 +1,14 @@
-//! Lists, checks and canonically writes IAMF sequences (AOMedia Immersive Audio Model and Formats 1.0.0).
+//! Lists, checks and canonically writes IAMF sequences (AOMedia Immersive Audio Model and Formats 1.0.0), writes them into
+//! MP4 files and reads them out of such files.
 #![tactic(auto)]
 
 mod answer;
+mod canon;
 mod checking;
 mod command;
+mod ending;
 mod listing;
+mod muxing;
 mod notes;
 mod run;
 mod status;

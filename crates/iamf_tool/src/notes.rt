@@ -1,9 +1,9 @@
 ghost use Rattle.std.specs.Prelude.{◌≡◌, ◌++◌, IfOk};
-ghost use Rattle.iamf_tool.specs.Status.{status_line};
+ghost use Rattle.iamf_tool.specs.Status.{status_of, status_line};
 ghost use Rattle.iamf_tool.specs.Ends.{side, Noted, Refuses, refusal_line};
 
 use crate::status::Status;
-use iamf_io::{Sink, write_all};
+use iamf_io::{ReadError, Sink, write_all};
 use itoa::Buffer;
 use std::alloc::{AllocError, Global};
 
@@ -24,6 +24,18 @@ pub fn ended<N: Sink>(status: Status, notes: &mut N) -> Status
 {
     note(notes, status.line());
     status
+}
+
+/// Notes why the input was not read, and answers the status.
+pub fn unread<N: Sink>(error: ReadError, notes: &mut N) -> Status
+    ensures same { result ≡ status_of error }
+    ensures noted { Noted (side N.held N.faults notes.old notes.new) (status_line (status_of error)) }
+{
+    match error {
+        ReadError::Failed => ended(Status::ReadFault, notes),
+        ReadError::TooLarge => ended(Status::TooLarge, notes),
+        ReadError::Memory(_) => ended(Status::Memory, notes),
+    }
 }
 
 // The line of a refusal.

@@ -1,13 +1,31 @@
 ghost use Rattle.iamf_tool.specs.Words.{command_of};
-ghost use Rattle.iamf_tool.specs.Ends.{side, ran, Runs};
+ghost use Rattle.iamf_tool.specs.Ends.{side, ran, Ends, Runs};
 ghost use Rattle.iamf_tool.specs.Complete.{Completes};
 
-use crate::command::read_words;
+use crate::checking::check;
+use crate::command::{Command, read_words};
 use crate::notes::ended;
 use crate::status::Status;
 use crate::whole::whole;
 use iamf_io::{Sink, Source};
 use std::alloc::Global;
+
+// Does what the command says. Each command is a job of its own.
+fn job<R: Source, W: Sink, N: Sink>(
+    alloc: Global,
+    command: Command,
+    source: &mut R,
+    out: &mut W,
+    notes: &mut N,
+) -> Status
+    ensures { Ends result command (ran (side R.left R.faults source.old source.new)
+        (side W.held W.faults out.old out.new) (side N.held N.faults notes.old notes.new)) }
+{
+    match command {
+        Command::Check => check(alloc, source, out, notes),
+        Command::Convert(conversion) => whole(alloc, conversion, source, out, notes),
+    }
+}
 
 /// Does what the words say: reads `source` to its end, writes the output on `out` and a line on `notes` where
 /// there is none. `words` are the command line without the program's name.
@@ -40,7 +58,7 @@ pub fn run<R: Source, W: Sink, N: Sink>(
         (side W.held W.faults out.old out.new) (side N.held N.faults notes.old notes.new)) }
 {
     match read_words(words) {
-        Some(command) => whole(alloc, command, source, out, notes),
+        Some(command) => job(alloc, command, source, out, notes),
         None => ended(Status::Usage, notes),
     }
 }

@@ -1,4 +1,5 @@
 mod case;
+mod files;
 mod parts;
 mod refusals;
 mod sequences;

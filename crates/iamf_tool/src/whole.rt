@@ -1,66 +1,50 @@
 //! The commands that make one output of the whole input.
-ghost use Rattle.std.specs.Prelude.{◌≡◌, ◌≤◌, ◌^◌, length};
-ghost use Rattle.iamf_tool.specs.Ends.{side, ran, Delivers, Concludes, Ends};
+ghost use Rattle.std.specs.Prelude.{◌≤◌, ◌^◌, length, IfOk};
+ghost use Rattle.iamf_tool.specs.declared.command.Command.TheVariants as given;
+ghost use Rattle.iamf_tool.specs.Outcome.{Converts};
+ghost use Rattle.iamf_tool.specs.Answers.{view_answer};
+ghost use Rattle.iamf_tool.specs.Ends.{side, ran, Ends};
 
-use crate::answer::{Answer, answer_of};
-use crate::command::Command;
-use crate::notes::{ended, refuse};
+use crate::answer::Answer;
+use crate::canon::canon;
+use crate::command::Conversion;
+use crate::ending::conclude;
+use crate::listing::list_lines;
+use crate::muxing::{demux, mux};
+use crate::notes::unread;
 use crate::status::Status;
-use iamf_io::{ReadError, Sink, Source, read_all, write_all};
-use std::alloc::Global;
+use iamf_io::{Sink, Source, read_all};
+use std::alloc::{AllocError, Global};
 
-// The most bytes that an input has.
-const LIMIT: u64 = 1073741824;
+/// The most bytes that an input has.
+pub const LIMIT: u64 = 1073741824;
 
-// Writes the output.
-fn deliver<W: Sink, N: Sink>(output: &[u8], out: &mut W, notes: &mut N) -> Status
-    ensures { Delivers result output.now (side W.held W.faults out.old out.new)
-        (side N.held N.faults notes.old notes.new) }
-{
-    match write_all(out, output) {
-        Ok(()) => {}
-        Err(_) => return ended(Status::WriteFault, notes),
-    }
-    match out.flush() {
-        Ok(()) => Status::Done,
-        Err(_) => ended(Status::WriteFault, notes),
-    }
-}
-
-// Writes what the command gives for the whole input, of at most 2^30 bytes, or notes why it gives nothing.
-fn conclude<W: Sink, N: Sink>(
-    alloc: Global,
-    command: Command,
-    bytes: &[u8],
-    out: &mut W,
-    notes: &mut N,
-) -> Status
+// What is made of these bytes, of which there are at most 2^30.
+fn converted(alloc: Global, conversion: Conversion, bytes: &[u8]) -> Result<Answer, AllocError>
     requires { length bytes.now ≤ 2 ^ 30 }
-    ensures { Concludes result command bytes.now (side W.held W.faults out.old out.new)
-        (side N.held N.faults notes.old notes.new) }
+    ensures { IfOk result (λ a. Converts conversion bytes.now (view_answer a)) }
 {
-    match answer_of(alloc, command, bytes) {
-        Ok(Answer::Output(output)) => deliver(&output, out, notes),
-        Ok(Answer::Refusal { at, code }) => refuse(alloc, at, code, notes),
-        Err(_) => ended(Status::Memory, notes),
+    match conversion {
+        Conversion::List => list_lines(alloc, bytes),
+        Conversion::Canon => canon(alloc, bytes),
+        Conversion::Mux => mux(alloc, bytes),
+        Conversion::Demux => demux(alloc, bytes),
     }
 }
 
-/// Reads the whole input, and writes what the command gives for it, or notes why it gives nothing.
+/// Reads the whole input, and writes what is made of it, or notes why nothing is.
 pub fn whole<R: Source, W: Sink, N: Sink>(
     alloc: Global,
-    command: Command,
+    conversion: Conversion,
     source: &mut R,
     out: &mut W,
     notes: &mut N,
 ) -> Status
-    ensures { Ends result command (ran (side R.left R.faults source.old source.new)
+    ensures { Ends result (given.Convert conversion) (ran (side R.left R.faults source.old source.new)
         (side W.held W.faults out.old out.new) (side N.held N.faults notes.old notes.new)) }
 {
     match read_all(alloc, source, LIMIT) {
-        Ok(bytes) => conclude(alloc, command, &bytes, out, notes),
-        Err(ReadError::Failed) => ended(Status::ReadFault, notes),
-        Err(ReadError::TooLarge) => ended(Status::TooLarge, notes),
-        Err(ReadError::Memory(_)) => ended(Status::Memory, notes),
+        Ok(bytes) => conclude(alloc, converted(alloc, conversion, &bytes), out, notes),
+        Err(error) => unread(error, notes),
     }
 }

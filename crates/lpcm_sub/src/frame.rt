@@ -7,9 +7,8 @@ use crate::number::{number_16, number_24, number_32};
 /// Whether a frame of `frame_length` samples in `channels` channels, each of `depth` bits, has `length` bytes
 /// (IAMF 1.0.0, "LPCM Specific").
 ///
-/// `depth` is 16, 24 or 32. The other arguments may have any value: no product wraps.
+/// The arguments may have any value: no product wraps.
 pub fn fits_frame(depth: u8, frame_length: u32, channels: u32, length: usize) -> bool
-    requires { IsTrue (is_depth depth) }
     ensures { result ≡ (length == frame_bytes frame_length channels depth) }
 {
     let bits = u128::from(frame_length) * u128::from(channels) * u128::from(depth);

@@ -1,4 +1,4 @@
-pub mod Floors
+pub mod FloorSizes
 pub mod StepLemmas
 pub mod WalkLemmas
 pub mod Rows

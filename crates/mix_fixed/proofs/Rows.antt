@@ -1,5 +1,5 @@
 -- What a kernel writes: the fixed walk's channels, each near to those that fit, and small.
-use Rattle.std.proofs.Common.{arith, ◌≡◌, ◌<◌, ◌≤◌, ℕ, zero, suc, ℤ, ◌*◌, ◌+◌, ◌-◌, ◌^◌, List, [], ◌∷◌, length, map, take, unsigned_abs}
+use Rattle.std.proofs.Common.{◌<◌, ◌≤◌, ℕ, ℤ, ◌*◌, ◌^◌, List, [], ◌∷◌, map, unsigned_abs}
 use Rattle.std.specs.Prelude.{All}
 use Rattle.std.specs.List.{AllZip}
 use Rattle.std.proofs.lemmas.List.Elements.{All-head, All-tail, All-map}

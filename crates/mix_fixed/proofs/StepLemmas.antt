@@ -1,5 +1,5 @@
 -- A step's channels, put together from what its parts give.
-use Rattle.std.proofs.Common.{◌≡◌, ℕ, ℤ, pos, ◌-ℤ◌, ◌*ℤ◌, ◌*◌, refl, Bool, if◌then◌else◌}
+use Rattle.std.proofs.Common.{◌≡◌, ℕ, ℤ, pos, ◌-ℤ◌, ◌*ℤ◌, ◌*◌, refl, ◌∙◌, Bool, true, false, ◌&&◌, nat_le, if◌then◌else◌}
 use Rattle.spec_gains.specs.Modes.{Coefficients}
 use Rattle.spec_demix.specs.Floor.{floor_of}
 use Rattle.spec_demix.specs.Kinds.{reaches, gives_three, gives_two, leaves_three, gives_four, gives_back, splits_two}
@@ -9,23 +9,40 @@ use Rattle.spec_demix.specs.declared.Side.{Side}
 use Rattle.spec_demix.specs.declared.Tops.{Tops}
 use Rattle.spec_demix.specs.declared.Bed.{Bed}
 
+-- what comes where a test holds is that of the new channel
+picked : (t : Bool) (x y : ℤ) (f : ℤ → ℤ) (o : ℤ) → (if t then f (if t then x else y) else o) ≡ (if t then f x else o)
+picked true x y f o = refl
+picked false x y f o = refl
+
+picked_both : (s t : Bool) (x y : ℤ) (f : ℤ → ℤ) (o : ℤ) → (if s && t then f (if t then x else y) else o) ≡ (if s && t then f x else o)
+picked_both true true x y f o = refl
+picked_both true false x y f o = refl
+picked_both false t x y f o = refl
+
 pub side_is : (before now : ℕ) (mode : Coefficients) (two center : ℤ) (old sent : Side) (t3 t5 t7 : Bool) (a b d e f : ℤ)
     → t3 ≡ reaches 3 before now → t5 ≡ reaches 5 before now → t7 ≡ reaches 7 before now
     → a ≡ (if t3 then two -ℤ floor_of (pos 707 *ℤ center) 1000 else old.three)
-    → b ≡ (if t5 then floor_of (pos 1000 *ℤ (a -ℤ sent.five)) mode.delta else old.surround)
+    → b ≡ (if t5 then floor_of (pos 1000 *ℤ (a -ℤ d)) mode.delta else old.surround)
     → d ≡ (if t5 then sent.five else old.five) → e ≡ (if t7 then sent.side else old.side)
-    → f ≡ (if t7 then floor_of (pos 1000 *ℤ b -ℤ pos mode.alpha *ℤ sent.side) mode.beta else old.rear)
+    → f ≡ (if t7 then floor_of (pos 1000 *ℤ b -ℤ pos mode.alpha *ℤ e) mode.beta else old.rear)
     → record { two = two; three = a; five = d; surround = b; side = e; rear = f } ≡ side_after before now mode two center old sent
-side_is before now mode two center old sent t3 t5 t7 a b d e f k3 k5 k7 ka kb kd ke kf = rw (kf, kd, ke) (rw kb (rw ka (rw (k3, k5, k7) refl)))
+side_is before now mode two center old sent t3 t5 t7 a b d e f k3 k5 k7 ka kb kd ke kf =
+    let pb : b ≡ (if t5 then floor_of (pos 1000 *ℤ (a -ℤ sent.five)) mode.delta else old.surround) =
+    kb ∙ (rw kd (picked t5 sent.five old.five (λ x. floor_of (pos 1000 *ℤ (a -ℤ x)) mode.delta) old.surround)) in
+    let pf : f ≡ (if t7 then floor_of (pos 1000 *ℤ b -ℤ pos mode.alpha *ℤ sent.side) mode.beta else old.rear) =
+    kf ∙ (rw ke (picked t7 sent.side old.side (λ x. floor_of (pos 1000 *ℤ b -ℤ pos mode.alpha *ℤ x) mode.beta) old.rear)) in
+    rw (pf, kd, ke) (rw pb (rw ka (rw (k3, k5, k7) refl)))
 
-pub tops_are : (before now : Kind) (mode : Coefficients) (w : ℕ) (surround : ℤ) (old sent : Tops) (l3 g2 g3 g4 s2 gb : Bool) (share a b d e : ℤ)
+pub tops_are : (before now : Kind) (mode : Coefficients) (w : ℕ) (surround : ℤ) (old sent : Tops) (l3 g2 g3 g4 s2 gb : Bool) (a b d e : ℤ)
     → l3 ≡ leaves_three before now → g2 ≡ gives_two before now → g3 ≡ gives_three before now → g4 ≡ gives_four before now → s2 ≡ splits_two before now → gb ≡ gives_back before now
-    → share ≡ floor_of (pos (w * mode.delta) *ℤ surround) 10000000
-    → b ≡ (if l3 then old.three -ℤ share else (if g2 then sent.two else old.two))
+    → b ≡ (if l3 then old.three -ℤ floor_of (pos (w * mode.delta) *ℤ surround) 10000000 else (if g2 then sent.two else old.two))
     → a ≡ (if g3 then sent.three else old.three) → d ≡ (if g4 then sent.four else old.four)
-    → e ≡ (if s2 then floor_of (pos 1000 *ℤ (b -ℤ sent.four)) mode.gamma else (if gb then sent.back else old.back))
+    → e ≡ (if s2 then floor_of (pos 1000 *ℤ (b -ℤ d)) mode.gamma else (if gb then sent.back else old.back))
     → record { three = a; two = b; four = d; back = e } ≡ tops_after before now mode w surround old sent
-tops_are before now mode w surround old sent l3 g2 g3 g4 s2 gb share a b d e k1 k2 k3 k4 k5 k6 ks kb ka kd ke = rw (ka, kd, ke) (rw kb (rw ks (rw (k1, k2, k3, k4, k5, k6) refl)))
+tops_are before now mode w surround old sent l3 g2 g3 g4 s2 gb a b d e k1 k2 k3 k4 k5 k6 kb ka kd ke =
+    let pe : e ≡ (if splits_two before now then floor_of (pos 1000 *ℤ (b -ℤ sent.four)) mode.gamma else (if gb then sent.back else old.back)) =
+    ke ∙ (rw (k5, kd) (rw k4 (picked_both (nat_le 2 before.height) (gives_four before now) sent.four old.four (λ x. floor_of (pos 1000 *ℤ (b -ℤ x)) mode.gamma) (if gb then sent.back else old.back)))) in
+    rw (ka, kd, pe) (rw kb (rw (k1, k2, k3, k4, k6) refl))
 
 pub bed_is : (before now : Kind) (mode : Coefficients) (w : ℕ) (old sent : Bed) (t2 t3 : Bool) (center low left_two right_two : ℤ) (left right : Side) (left_top right_top : Tops)
     → t2 ≡ reaches 2 before.surround now.surround → t3 ≡ reaches 3 before.surround now.surround

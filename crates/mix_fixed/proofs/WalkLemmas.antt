@@ -1,6 +1,5 @@
 -- The fixed walk: how large what a layer transmits is, and one layer more.
-use Rattle.std.proofs.Common.{arith, ◌≡◌, ◌<◌, ◌≤◌, ℕ, zero, suc, ℤ, pos, negsuc, ◌+ℤ◌, ◌*ℤ◌, ◌≤ℤ◌, ◌<ℤ◌, ◌+◌, ◌*◌, ◌^◌, refl, List, length, unsigned_abs, slice_index_or}
-use Rattle.std.specs.Prelude.{All}
+use Rattle.std.proofs.Common.{arith, ◌≡◌, ◌≤◌, ℕ, suc, ℤ, pos, ◌*ℤ◌, ◌+◌, ◌*◌, ◌^◌, refl, List, length, unsigned_abs, slice_index_or}
 use Rattle.std.proofs.lemmas.Int.{ints, unsigned_abs-mul}
 use Rattle.std.proofs.lemmas.List.Elements.{All-get_or}
 use Rattle.std.proofs.Math.Nat.{mul-le-mul, mul-le-mul_right}
@@ -13,13 +12,13 @@ use Rattle.spec_demix.specs.declared.SentBed.{SentBed}
 use Rattle.spec_demix.specs.declared.Side.{Side}
 use Rattle.spec_demix.specs.declared.Tops.{Tops}
 use Rattle.spec_demix.specs.declared.Bed.{Bed}
-use Rattle.spec_demix.specs.Floor.{floor_of, unit}
+use Rattle.spec_demix.specs.Floor.{unit}
 use Rattle.spec_demix.specs.Sent.{sample_of, side_of, tops_of, bed_of, sent_at, sent_by, kinds_of}
 use Rattle.spec_demix.specs.FixedWalk.{units_of, side_units, tops_units, bed_units, bed_after, fixed}
 use Rattle.spec_demix.specs.Sizes.{AreSamples}
 use Rattle.demix_channels.specs.Room.{IsSentWithin, AreSidesWithin, AreTopsWithin, AreWithin}
 use Rattle.mix_fixed.specs.Within.{AtMost, IsWithinSide, IsWithinTops, IsWithin, IsSentSide, IsSentTops, IsSent}
-use Rattle.mix_fixed.proofs.Floors.{floor-low, floor-high}
+use Rattle.spec_demix.proofs.FloorLemmas.{floor-low, floor-high}
 
 units_most : (z : ℤ) → unsigned_abs z ≤ 2 ^ 31 * 39810717055340 → AtMost (2 ^ 58) 100 (units_of z)
 units_most z h =
@@ -27,7 +26,7 @@ units_most z h =
     let k = floor-high (z *ℤ pos unit) 1000000000000 (omega arith) in
     omega (arith, ints)
 
-sample_most : (coded : List ℤ) (sent : Sent) → IsSentWithin (length coded) sent → AreSamples coded → AtMost (2 ^ 58) 100 (units_of (sample_of coded sent))
+pub sample_most : (coded : List ℤ) (sent : Sent) → IsSentWithin (length coded) sent → AreSamples coded → AtMost (2 ^ 58) 100 (units_of (sample_of coded sent))
 sample_most coded sent w s =
     let y : unsigned_abs (slice_index_or coded sent.place (pos 0)) ≤ 2 ^ 31 = All-get_or (λ y. unsigned_abs y ≤ 2 ^ 31) coded sent.place (pos 0) w.place s in
     units_most (sample_of coded sent) (rw unsigned_abs-mul (mul-le-mul y w.factor))

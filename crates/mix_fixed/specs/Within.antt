@@ -1,6 +1,6 @@
 -- How large the numbers of the fixed walk are, which the private functions ask so that none overflows; no definitions of what
 -- is meant. Bounds are in hundredths of the largest transmitted channel, n.
-use Rattle.std.specs.Prelude.{ℕ, ◌≤◌, ◌<◌, ◌*◌, ◌^◌, unsigned_abs, ℤ}
+use Rattle.std.specs.Prelude.{ℕ, ◌≤◌, ◌*◌, unsigned_abs, ℤ}
 use Rattle.spec_demix.specs.declared.Side.{Side}
 use Rattle.spec_demix.specs.declared.Tops.{Tops}
 use Rattle.spec_demix.specs.declared.Bed.{Bed}

@@ -2,6 +2,7 @@
 //! Semantics", "Demixing Info Parameter Data" and "Mix Gain Parameter Data"). Nothing here takes memory.
 #![tactic(auto)]
 
+mod floors;
 mod kernel;
 mod output;
 mod samples;

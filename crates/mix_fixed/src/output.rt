@@ -4,6 +4,9 @@ ghost use Rattle.std.specs.Prelude.{◌≡◌, ◌-◌, ◌^◌, ◌<◌, ◌≤
 ghost use Rattle.spec_demix.specs.Floor.{floor_of};
 ghost use Rattle.spec_demix.specs.Rounding.{clipped, rounded};
 
+/// The gain of 0 dB.
+const ONE: u64 = 1_000_000_000_000;
+
 /// The value times a gain over 10^12, rounded down.
 ///
 /// The value must be below 2^78 in absolute value, and the gain at most that of 32 dB, 39810717055340.
@@ -12,7 +15,11 @@ pub fn apply_gain(value: i128, gain: u64) -> i128
     requires gain { gain ≤ 39810717055340 }
     ensures { result ≡ floor_of (value *ℤ pos gain) 1000000000000 }
 {
-    (value * gain as i128).div_euclid(1_000_000_000_000)
+    if gain == ONE {
+        value
+    } else {
+        (value * gain as i128).div_euclid(ONE as i128)
+    }
 }
 
 /// How many samples of a depth are not negative.
@@ -31,7 +38,7 @@ fn nearest(value: i128) -> i128
     requires { unsigned_abs value < 2 ^ 126 }
     ensures { result ≡ rounded value }
 {
-    (value + 0x800_0000).div_euclid(0x1000_0000)
+    (value + 0x800_0000) >> 28
 }
 
 /// The nearest sample of a depth.

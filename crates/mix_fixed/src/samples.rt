@@ -4,26 +4,42 @@ ghost use Rattle.std.specs.Prelude.{◌≡◌, ◌*◌, ◌^◌, ◌<◌, ◌≤
 ghost use Rattle.spec_demix.specs.FixedWalk.{units_of, side_units, tops_units, bed_units};
 ghost use Rattle.spec_demix.specs.Sent.{sample_of, side_of, tops_of, bed_of};
 ghost use Rattle.spec_demix.specs.Sizes.{AreSamples};
+ghost use Rattle.mix_fixed.specs.Within.{AtMost};
 ghost use Rattle.demix_channels.specs.Room.{IsSentWithin, AreSidesWithin, AreTopsWithin, AreWithin};
 
 use spec_demix::{Bed, Sent, SentBed, SentSide, SentTops, Side, Tops};
 
+/// What a sample is multiplied by where no output gain acts on it.
+const ONE: u64 = 1_000_000_000_000;
+
 /// A coded sample times a factor in parts of 10^12, in units.
+#[inline]
 fn scaled(y: i64, factor: u64) -> i128
     requires y { unsigned_abs y ≤ 2 ^ 31 }
     requires factor { factor ≤ 39810717055340 }
     ensures { result ≡ units_of (y *ℤ pos factor) }
 {
-    (i128::from(y) * i128::from(factor) * 0x1000_0000).div_euclid(1_000_000_000_000)
+    if factor == ONE {
+        i128::from(y * 0x1000_0000)
+    } else {
+        (i128::from(y) * i128::from(factor) * 0x1000_0000).div_euclid(ONE as i128)
+    }
 }
 
-/// A channel that a layer transmits.
-fn sample(sent: Sent, coded: &[i64]) -> i128
+/// A channel that a layer transmits; 0 where it does not.
+#[inline]
+#[tactic(auto, using(crate::proofs::WalkLemmas::sample_most))]
+pub(crate) fn sample(sent: Sent, coded: &[i64]) -> i128
     requires within { IsSentWithin (length coded.now) sent }
     requires samples { AreSamples coded.now }
-    ensures { result ≡ units_of (sample_of coded.now sent) }
+    ensures most { AtMost (2 ^ 58) 100 result }
+    ensures value { result ≡ units_of (sample_of coded.now sent) }
 {
-    scaled(coded[sent.place], sent.factor)
+    if sent.factor == 0 {
+        0
+    } else {
+        scaled(coded[sent.place], sent.factor)
+    }
 }
 
 fn side(sent: &SentSide, coded: &[i64]) -> Side

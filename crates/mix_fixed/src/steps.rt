@@ -1,48 +1,63 @@
 //! One step of the fixed walk: what a layer adds to the channels of those below it. No number overflows, since each channel
 //! is at most a known multiple of what can be transmitted.
 
-ghost use Rattle.std.specs.Prelude.{◌≡◌, ◌*◌, ◌^◌, ◌<◌, ◌≤◌, pos, ◌-ℤ◌, ◌*ℤ◌, unsigned_abs, if◌then◌else◌};
+ghost use Rattle.std.specs.Prelude.{◌≡◌, ◌*◌, ◌^◌, ◌≤◌, length, pos, ◌-ℤ◌, ◌*ℤ◌, if◌then◌else◌};
 ghost use Rattle.spec_gains.specs.Modes.{coefficients_of, AreBounded};
 ghost use Rattle.spec_demix.specs.Floor.{floor_of};
-ghost use Rattle.spec_demix.specs.FixedWalk.{side_after, tops_after, bed_after};
-ghost use Rattle.mix_fixed.specs.Within.{AtMost, IsWithinSide, IsWithinTops, IsWithin, IsSentSide, IsSentTops, IsSent};
+ghost use Rattle.spec_demix.specs.FixedWalk.{units_of, side_units, tops_units, bed_units, side_after, tops_after, bed_after};
+ghost use Rattle.spec_demix.specs.Sent.{sample_of, side_of, tops_of, bed_of};
+ghost use Rattle.spec_demix.specs.Sizes.{AreSamples};
+ghost use Rattle.demix_channels.specs.Room.{IsSentWithin, AreSidesWithin, AreTopsWithin, AreWithin};
+ghost use Rattle.mix_fixed.specs.Within.{AtMost, IsWithinSide, IsWithinTops, IsWithin};
 
+use crate::floors::floor;
+use crate::samples::sample;
 use demix_channels::{
     DemixParams, gives_back, gives_four, gives_three, gives_two, is_reached, leaves_three,
     splits_two,
 };
 use iamf_tables::DemixMode;
-use spec_demix::{Bed, Kind, Side, Tops};
+use spec_demix::{Bed, Kind, Sent, SentBed, SentSide, SentTops, Side, Tops};
 
 /// A channel that comes with the layer where a test holds, and else stays.
-fn sent_or_old(test: bool, sent: i128, old: i128) -> i128
-    requires sent { AtMost (2 ^ 58) 100 sent }
+#[inline]
+fn sample_or_old(test: bool, sent: Sent, coded: &[i64], old: i128) -> i128
+    requires within { IsSentWithin (length coded.now) sent }
+    requires samples { AreSamples coded.now }
     requires old { AtMost (2 ^ 58) 100 old }
-    ensures value { result ≡ (if test then sent else old) }
+    ensures value { result ≡ (if test then units_of (sample_of coded.now sent) else old) }
     ensures most { AtMost (2 ^ 58) 100 result }
 {
-    if test { sent } else { old }
+    if test { sample(sent, coded) } else { old }
 }
 
 /// Left of stereo.
-fn two_left(test: bool, sent: i128, old: i128) -> i128
-    requires sent { AtMost (2 ^ 58) 100 sent }
+#[inline]
+fn two_left(test: bool, sent: Sent, coded: &[i64], old: i128) -> i128
+    requires within { IsSentWithin (length coded.now) sent }
+    requires samples { AreSamples coded.now }
     requires old { AtMost (2 ^ 58) 300 old }
-    ensures value { result ≡ (if test then sent else old) }
+    ensures value { result ≡ (if test then units_of (sample_of coded.now sent) else old) }
     ensures most { AtMost (2 ^ 58) 300 result }
 {
-    if test { sent } else { old }
+    if test { sample(sent, coded) } else { old }
 }
 
 /// Right of stereo, from mono and left.
-fn two_right(test: bool, mono: i128, left: i128, old: i128) -> i128
+#[inline]
+fn two_right(test: bool, mono: i128, sent: Sent, coded: &[i64], old: i128) -> i128
+    requires within { IsSentWithin (length coded.now) sent }
+    requires samples { AreSamples coded.now }
     requires mono { AtMost (2 ^ 58) 100 mono }
-    requires left { AtMost (2 ^ 58) 100 left }
     requires old { AtMost (2 ^ 58) 300 old }
-    ensures value { result ≡ (if test then pos 2 *ℤ mono -ℤ left else old) }
+    ensures value { result ≡ (if test then pos 2 *ℤ mono -ℤ units_of (sample_of coded.now sent) else old) }
     ensures most { AtMost (2 ^ 58) 300 result }
 {
-    if test { 2 * mono - left } else { old }
+    if test {
+        2 * mono - sample(sent, coded)
+    } else {
+        old
+    }
 }
 
 /// Left or right of 3.1.2.
@@ -54,19 +69,10 @@ fn three(test: bool, two: i128, center: i128, old: i128) -> i128
     ensures most { AtMost (2 ^ 58) 372 result }
 {
     if test {
-        two - (707 * center).div_euclid(1000)
+        two - floor(707 * center, 1000)
     } else {
         old
     }
-}
-
-/// The floor of a fraction.
-fn floor(top: i128, bottom: u32) -> i128
-    requires top { unsigned_abs top < 2 ^ 100 }
-    requires bottom { 0 < bottom }
-    ensures { result ≡ floor_of top bottom }
-{
-    top.div_euclid(i128::from(bottom))
 }
 
 /// What is left of a channel beside a part of it, over the coefficient with which it was mixed in.
@@ -137,6 +143,7 @@ fn rear(test: bool, mode: DemixMode, surround: i128, side: i128, old: i128) -> i
 }
 
 /// One side after a layer, where `two` is its channel of stereo.
+#[inline]
 fn side_step(
     before: u8,
     now: u8,
@@ -144,27 +151,31 @@ fn side_step(
     two: i128,
     center: i128,
     old: &Side,
-    sent: &Side,
+    sent: &SentSide,
+    coded: &[i64],
 ) -> Side
     requires mode { AreBounded (coefficients_of mode) }
     requires two { AtMost (2 ^ 58) 300 two }
     requires center { AtMost (2 ^ 58) 100 center }
     requires old { IsWithinSide (2 ^ 58) old.now }
-    requires sent { IsSentSide (2 ^ 58) sent.now }
-    ensures value { result ≡ side_after before now (coefficients_of mode) two center old.now sent.now }
+    requires within { AreSidesWithin (length coded.now) sent.now }
+    requires samples { AreSamples coded.now }
+    ensures value { result ≡ side_after before now (coefficients_of mode) two center old.now (side_units (side_of coded.now sent.now)) }
     ensures within { IsWithinSide (2 ^ 58) result }
 {
     let fifth = is_reached(5, before, now);
     let seventh = is_reached(7, before, now);
     let three = three(is_reached(3, before, now), two, center, old.three);
-    let surround = surround(fifth, mode.delta, three, sent.five, old.surround);
+    let five = sample_or_old(fifth, sent.five, coded, old.five);
+    let surround = surround(fifth, mode.delta, three, five, old.surround);
+    let side = sample_or_old(seventh, sent.side, coded, old.side);
     Side {
         two,
         three,
-        five: sent_or_old(fifth, sent.five, old.five),
+        five,
         surround,
-        side: sent_or_old(seventh, sent.side, old.side),
-        rear: rear(seventh, mode, surround, sent.side, old.rear),
+        side,
+        rear: rear(seventh, mode, surround, side, old.rear),
     }
 }
 
@@ -175,129 +186,157 @@ fn share_of(weight: u32, surround: i128) -> i128
     ensures value { result ≡ floor_of (pos weight *ℤ surround) 10000000 }
     ensures most { AtMost (2 ^ 58) 321 result }
 {
-    (i128::from(weight) * surround).div_euclid(10_000_000)
+    floor(i128::from(weight) * surround, 10_000_000)
 }
 
 /// The top of two.
-fn top_two(leaves: bool, gives: bool, share: i128, three: i128, sent: i128, old: i128) -> i128
-    requires share { AtMost (2 ^ 58) 321 share }
+#[inline]
+fn top_two(
+    leaves: bool,
+    gives: bool,
+    weight: u32,
+    surround: i128,
+    three: i128,
+    sent: Sent,
+    coded: &[i64],
+    old: i128,
+) -> i128
+    requires weight { weight ≤ 5000 * 866 }
+    requires surround { AtMost (2 ^ 58) 740 surround }
     requires three { AtMost (2 ^ 58) 100 three }
-    requires sent { AtMost (2 ^ 58) 100 sent }
+    requires within { IsSentWithin (length coded.now) sent }
+    requires samples { AreSamples coded.now }
     requires old { AtMost (2 ^ 58) 422 old }
-    ensures value { result ≡ (if leaves then three -ℤ share else (if gives then sent else old)) }
+    ensures value { result ≡ (if leaves then three -ℤ floor_of (pos weight *ℤ surround) 10000000 else (if gives then units_of (sample_of coded.now sent) else old)) }
     ensures most { AtMost (2 ^ 58) 422 result }
 {
     if leaves {
-        three - share
+        three - share_of(weight, surround)
     } else if gives {
-        sent
+        sample(sent, coded)
     } else {
         old
     }
 }
 
 /// The back top of four.
+#[inline]
 fn top_back(
     splits: bool,
     gives: bool,
     gamma: u32,
     two: i128,
     four: i128,
-    sent: i128,
+    sent: Sent,
+    coded: &[i64],
     old: i128,
 ) -> i128
     requires least { 707 ≤ gamma }
     requires most { gamma ≤ 866 }
     requires two { AtMost (2 ^ 58) 422 two }
     requires four { AtMost (2 ^ 58) 100 four }
-    requires sent { AtMost (2 ^ 58) 100 sent }
+    requires within { IsSentWithin (length coded.now) sent }
+    requires samples { AreSamples coded.now }
     requires old { AtMost (2 ^ 58) 740 old }
-    ensures value { result ≡ (if splits then floor_of (pos 1000 *ℤ (two -ℤ four)) gamma else (if gives then sent else old)) }
+    ensures value { result ≡ (if splits then floor_of (pos 1000 *ℤ (two -ℤ four)) gamma else (if gives then units_of (sample_of coded.now sent) else old)) }
     ensures most { AtMost (2 ^ 58) 740 result }
 {
     if splits {
         unmixed(gamma, two, four)
     } else if gives {
-        sent
+        sample(sent, coded)
     } else {
         old
     }
 }
 
 /// One side's tops after a layer, with the surround of 5.1.
+#[inline]
 fn tops_step(
     before: Kind,
     now: Kind,
     params: DemixParams,
     surround: i128,
     old: &Tops,
-    sent: &Tops,
+    sent: &SentTops,
+    coded: &[i64],
 ) -> Tops
     requires mode { AreBounded (coefficients_of params.mode) }
     requires weight { params.weight ≤ 5000 }
     requires surround { AtMost (2 ^ 58) 740 surround }
     requires old { IsWithinTops (2 ^ 58) old.now }
-    requires sent { IsSentTops (2 ^ 58) sent.now }
-    ensures value { result ≡ tops_after before now (coefficients_of params.mode) params.weight surround old.now sent.now }
+    requires within { AreTopsWithin (length coded.now) sent.now }
+    requires samples { AreSamples coded.now }
+    ensures value { result ≡ tops_after before now (coefficients_of params.mode) params.weight surround old.now (tops_units (tops_of coded.now sent.now)) }
     ensures within { IsWithinTops (2 ^ 58) result }
 {
+    let three = sample_or_old(gives_three(before, now), sent.three, coded, old.three);
     let two = top_two(
         leaves_three(before, now),
         gives_two(before, now),
-        share_of(params.weight * params.mode.delta, surround),
+        params.weight * params.mode.delta,
+        surround,
         old.three,
         sent.two,
+        coded,
         old.two,
     );
-    Tops {
-        three: sent_or_old(gives_three(before, now), sent.three, old.three),
+    let four = sample_or_old(gives_four(before, now), sent.four, coded, old.four);
+    let back = top_back(
+        splits_two(before, now),
+        gives_back(before, now),
+        params.mode.gamma,
         two,
-        four: sent_or_old(gives_four(before, now), sent.four, old.four),
-        back: top_back(
-            splits_two(before, now),
-            gives_back(before, now),
-            params.mode.gamma,
-            two,
-            sent.four,
-            sent.back,
-            old.back,
-        ),
+        four,
+        sent.back,
+        coded,
+        old.back,
+    );
+    Tops {
+        three,
+        two,
+        four,
+        back,
     }
 }
 
 /// All channels after a layer.
-pub(crate) fn bed_step(before: Kind, now: Kind, params: DemixParams, old: &Bed, sent: &Bed) -> Bed
+pub(crate) fn bed_step(
+    before: Kind,
+    now: Kind,
+    params: DemixParams,
+    old: &Bed,
+    sent: &SentBed,
+    coded: &[i64],
+) -> Bed
     requires mode { AreBounded (coefficients_of params.mode) }
     requires weight { params.weight ≤ 5000 }
     requires old { IsWithin (2 ^ 58) old.now }
-    requires sent { IsSent (2 ^ 58) sent.now }
-    ensures value { result ≡ bed_after before now (coefficients_of params.mode) params.weight old.now sent.now }
+    requires within { AreWithin (length coded.now) sent.now }
+    requires samples { AreSamples coded.now }
+    ensures value { result ≡ bed_after before now (coefficients_of params.mode) params.weight old.now (bed_units (bed_of coded.now sent.now)) }
     ensures within { IsWithin (2 ^ 58) result }
 {
     let (from, to) = (before.surround, now.surround);
+    let mode = params.mode;
     let second = is_reached(2, from, to);
     let third = is_reached(3, from, to);
-    let center = sent_or_old(third, sent.center, old.center);
-    let low = sent_or_old(third, sent.low, old.low);
-    let left_two = two_left(second, sent.left.two, old.left.two);
-    let right_two = two_right(second, old.mono, sent.left.two, old.right.two);
+    let center = sample_or_old(third, sent.center, coded, old.center);
+    let low = sample_or_old(third, sent.low, coded, old.low);
+    let left_two = two_left(second, sent.left.two, coded, old.left.two);
+    let right_two = two_right(second, old.mono, sent.left.two, coded, old.right.two);
     let left = side_step(
-        from,
-        to,
-        params.mode,
-        left_two,
-        center,
-        &old.left,
-        &sent.left,
+        from, to, mode, left_two, center, &old.left, &sent.left, coded,
     );
     let right = side_step(
         from,
         to,
-        params.mode,
+        mode,
         right_two,
         center,
         &old.right,
         &sent.right,
+        coded,
     );
     let left_top = tops_step(
         before,
@@ -306,6 +345,7 @@ pub(crate) fn bed_step(before: Kind, now: Kind, params: DemixParams, old: &Bed, 
         left.surround,
         &old.left_top,
         &sent.left_top,
+        coded,
     );
     let right_top = tops_step(
         before,
@@ -314,6 +354,7 @@ pub(crate) fn bed_step(before: Kind, now: Kind, params: DemixParams, old: &Bed, 
         right.surround,
         &old.right_top,
         &sent.right_top,
+        coded,
     );
     Bed {
         mono: old.mono,

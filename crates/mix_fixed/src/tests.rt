@@ -1,13 +1,18 @@
 //! Gains and roundings at their edges, and the channels of worked chains.
 
-ghost use Rattle.std.specs.Prelude.{◌≡◌, ◌≤◌, length};
+ghost use Rattle.std.specs.Prelude.{◌≡◌, ◌<◌, ◌≤◌, length, map};
 ghost use Rattle.spec_demix.specs.Fits.{target_channels};
-ghost use Rattle.mix_fixed.specs.Kernel.{target_of};
+ghost use Rattle.spec_demix.specs.Sent.{IsLayers};
+ghost use Rattle.spec_demix.specs.Elements.{demix_layers_of};
+ghost use Rattle.obu_descriptors.specs.LayerView.{view_layer};
+ghost use Rattle.demix_channels.specs.Gains.{HaveModestGains};
+
+mod chains;
 
 use crate::{DemixParams, Kernel, apply_gain, round_clip};
 use demix_channels::{are_samples, have_modest_gains, is_chain};
 use iamf_tables::{Layout, channel_count, demix_mode};
-use obu_descriptors::{Layer, OutputGain};
+use obu_descriptors::Layer;
 use std::process::Abort;
 
 const UNIT: i128 = 0x1000_0000;
@@ -59,17 +64,18 @@ fn layer(layout: Layout) -> Layer {
     }
 }
 
-/// The kernel for the last layer, which has so many channels.
-fn kernel_of(rt: &impl Abort, layers: &[Layer], count: usize) -> Kernel
-    ensures count { count ≡ length (target_channels result (target_of result)) }
+/// Asserts what demixing to a layer asks of the layers up to it, where it has so many channels.
+fn assert_layers(rt: &impl Abort, layers: &[Layer], target: usize, count: usize)
+    ensures target { target < length layers.now }
+    ensures chain { IsLayers (demix_layers_of (map view_layer layers.now)) target }
+    ensures gains { HaveModestGains layers.now target }
+    ensures count { count ≡ length (target_channels (demix_layers_of (map view_layer layers.now)) target) }
     ensures few { count ≤ 12 }
 {
-    assert!(rt; 0 < layers.len());
-    let target = layers.len() - 1;
+    assert!(rt; target < layers.len());
     assert!(rt; is_chain(layers, target));
     assert!(rt; have_modest_gains(layers, target));
     assert_eq!(rt; channel_count(layers[target].layout), count);
-    Kernel::new(layers, target)
 }
 
 /// The channels of the last layer in units.
@@ -80,7 +86,9 @@ fn demixed<const C: usize>(
     weight: u32,
     coded: &[i64],
 ) -> [i128; C] {
-    let kernel = kernel_of(rt, layers, C);
+    assert!(rt; 0 < layers.len());
+    let target = layers.len() - 1;
+    assert_layers(rt, layers, target, C);
     assert!(rt; C <= coded.len());
     assert!(rt; are_samples(coded));
     assert!(rt; code < 8);
@@ -88,7 +96,7 @@ fn demixed<const C: usize>(
     let mode = demix_mode(code).expect(rt, "a mode that is not reserved");
     let params = DemixParams { mode, weight };
     let mut out = [0; C];
-    kernel.demix(params, coded, &mut out);
+    Kernel::new(layers, target).demix(params, coded, &mut out);
     out
 }
 

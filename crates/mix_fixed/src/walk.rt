@@ -8,18 +8,23 @@ ghost use Rattle.spec_demix.specs.Values.{value_of};
 ghost use Rattle.spec_demix.specs.Sent.{layer_at, kinds_of, place_after, sent_by, IsLayers};
 ghost use Rattle.spec_demix.specs.FixedWalk.{fixed};
 ghost use Rattle.spec_demix.specs.Sizes.{AreSamples, AreModest};
-ghost use Rattle.mix_fixed.specs.Kernel.{target_of};
+ghost use Rattle.mix_fixed.specs.Kernel.{AreSent, target_of};
 
 use crate::samples::bed;
 use crate::steps::bed_step;
-use demix_channels::{DemixParams, kind, sent_first, sent_next};
-use iamf_tables::channel_count;
-use spec_demix::{Bed, DemixLayer};
+use demix_channels::{DemixParams, kind};
+use spec_demix::{Bed, DemixLayer, SentBed};
 use spec_layouts::Layout;
 
 /// All channels after the last layer.
-pub(crate) fn walk(layers: &[DemixLayer], params: DemixParams, coded: &[i64]) -> Bed
+pub(crate) fn walk(
+    layers: &[DemixLayer],
+    sent: &[SentBed],
+    params: DemixParams,
+    coded: &[i64],
+) -> Bed
     requires some { 0 < length layers.now }
+    requires sent { AreSent layers.now sent.now }
     requires chain { IsLayers layers.now (target_of layers.now) }
     requires modest { AreModest layers.now (target_of layers.now) }
     requires mode { AreBounded (coefficients_of params.mode) }
@@ -28,15 +33,11 @@ pub(crate) fn walk(layers: &[DemixLayer], params: DemixParams, coded: &[i64]) ->
     requires room { place_after layers.now (target_of layers.now) ≤ length coded.now }
     ensures { result ≡ fixed (kinds_of layers.now) (coefficients_of params.mode) params.weight (sent_by layers.now coded.now) (target_of layers.now) }
 {
-    let first = sent_first(layers[0]);
-    let mut all = bed(&first, coded);
+    let mut all = bed(&sent[0], coded);
     for i in 0..layers.len() - 1 {
-        let old = layers[i].layout;
-        let new = layers[i + 1];
-        let before = kind(old);
-        let next = sent_next(before, new, channel_count(old));
-        let sent = bed(&next, coded);
-        all = bed_step(before, kind(new.layout), params, &all, &sent);
+        let before = kind(layers[i].layout);
+        let now = kind(layers[i + 1].layout);
+        all = bed_step(before, now, params, &all, &sent[i + 1], coded);
     }
     all
 }

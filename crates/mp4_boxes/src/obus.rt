@@ -4,7 +4,7 @@ ghost use Rattle.std.specs.Prelude.{◌≡◌};
 ghost use Rattle.spec_boxes.specs.ObuLists.{are_obus as are_obus_of};
 ghost use Rattle.mp4_boxes.specs.Holding.{may_hold};
 
-use obu_header::read_obu;
+use obu_header::{ObuType, read_obu};
 
 /// What holds a list of OBUs.
 #[derive(Clone, Copy)]
@@ -18,9 +18,10 @@ pub enum Holder {
 fn may(holder: Holder, kind: u8) -> bool
     ensures { result ≡ may_hold holder kind }
 {
+    let obu_type = ObuType::of_number(kind);
     match holder {
-        Holder::Configuration => kind <= 2 || kind >= 24,
-        Holder::Sample => kind != 4,
+        Holder::Configuration => obu_type.is_descriptor() || obu_type == ObuType::Reserved,
+        Holder::Sample => obu_type != ObuType::TemporalDelimiter,
     }
 }
 

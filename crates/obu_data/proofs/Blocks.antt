@@ -1,7 +1,6 @@
 -- A parameter block is an id and the content that its definition's shape says.
-use Rattle.std.proofs.Common.{◌≡◌, ℕ, List, [], ◌++◌, Some, None, Result, Ok, Err, refl, ap, ◌∙◌, length, take}
+use Rattle.std.proofs.Common.{◌≡◌, ℕ, List, [], ◌++◌, Some, None, Result, Ok, Err, refl, ap, ◌∙◌}
 use Rattle.std.specs.Prelude.{IfOk}
-use Rattle.std.proofs.Math.Seq.{take-length}
 use Rattle.spec_bits.specs.Form.{Leb128}
 use Rattle.spec_bits.specs.Bits.{Bits, all_bits}
 use Rattle.spec_bits.specs.Cursor.{Cursor, field_at}
@@ -15,22 +14,19 @@ use Rattle.spec_blocks.specs.Shape.{Shape, Definition, shape_of}
 use Rattle.spec_blocks.specs.ParameterBlock.{ContentFields, Opaque, BlockFields, content_of, parameter_block}
 use Rattle.spec_blocks.specs.BlockFieldLists.{block_fields}
 use Rattle.spec_blocks.proofs.BlockFields.{block_syntax}
-use Rattle.obu_data.specs.declared.error.BlockError.{BlockError}
-use Rattle.obu_data.specs.declared.error.BlockError.TheVariants.{Fault, Memory}
-use Rattle.obu_data.specs.declared.parameter_block.Content.{Content}
-use Rattle.obu_data.specs.declared.parameter_block.Content.TheVariants as content
+use Rattle.iamf_bits.specs.declared.unread.Unread.{Unread}
+use Rattle.iamf_bits.specs.declared.unread.Unread.TheVariants.{Fault, Memory}
+use Rattle.obu_data.specs.declared.parameter_block.BlockContent.{BlockContent}
+use Rattle.obu_data.specs.declared.parameter_block.BlockContent.TheVariants as content
 use Rattle.obu_data.specs.declared.parameter_block.ParameterBlock.{ParameterBlock}
 use Rattle.spec_syntax.specs.Fitting.{AllFit}
 use Rattle.spec_syntax.proofs.Fitting.{stands_fit}
 use Rattle.spec_syntax.proofs.PayloadLaws.{payload_read}
-use Rattle.obu_data.specs.Outcome.{ReadsPart}
+use Rattle.iamf_bits.specs.Outcome.{ReadsPart}
 use Rattle.obu_data.specs.BlockView.{view_content, view_block, bytes_after, opaque_bytes, IsKnown}
 use Rattle.obu_data.specs.BlockReading.{ReadsBlock, SpellsBlock}
 
-pub at_start : (c : Cursor) (p : List ℕ) → c.bytes ≡ take (length p) p → c.place ≡ 0 → c ≡ start_of p
-at_start c p e none = let all : c.bytes ≡ p = e ∙ take-length p in ap (λ (b : List ℕ). record { bytes = b; place = c.place }) all ∙ ap (λ (n : ℕ). record { bytes = p; place = n }) none
-
-pub known_bytes : (c : Content) → IsKnown c → opaque_bytes c ≡ []
+pub known_bytes : (c : BlockContent) → IsKnown c → opaque_bytes c ≡ []
 known_bytes (content.Opaque bytes) known = absurd known
 known_bytes (content.Gain timing parts) known = refl
 known_bytes (content.Demix mode) known = refl
@@ -52,17 +48,17 @@ pub block_opaque : (definitions : List Definition) (c next : Cursor) (id : ℕ) 
     → read (λ f. fault.Field f) (parameter_block definitions) c ≡ Ok (record { parameter_id = id; content = Opaque }, next)
 block_opaque definitions c next id e none = block_part definitions c next id (Ok (Opaque, next)) e (rw none refl)
 
-pub block_fails : (definitions : List Definition) (c next new : Cursor) (id : ℕ) (shape : Shape) (error : BlockError) → field_at Leb128 c ≡ Ok (id, next) → shape_of definitions id ≡ Some shape
+pub block_fails : (definitions : List Definition) (c next new : Cursor) (id : ℕ) (shape : Shape) (error : Unread BlockFault) → field_at Leb128 c ≡ Ok (id, next) → shape_of definitions id ≡ Some shape
     → ReadsPart view_content (Err error) new (read (λ f. fault.Field f) (content_of (Some shape)) next) → ReadsBlock (Err error) (read (λ f. fault.Field f) (parameter_block definitions) c)
 block_fails definitions c next new id shape (Fault f) e found e1 = block_part definitions c next id (Err f) e (rw found e1)
 block_fails definitions c next new id shape (Memory a) e found e1 = tt
 
-pub block_spells : (definitions : List Definition) (payload : List ℕ) (r : Result ParameterBlock BlockError) → ReadsBlock r (read (λ f. fault.Field f) (parameter_block definitions) (start_of payload)) → SpellsBlock definitions payload r
+pub block_spells : (definitions : List Definition) (payload : List ℕ) (r : Result ParameterBlock (Unread BlockFault)) → ReadsBlock r (read (λ f. fault.Field f) (parameter_block definitions) (start_of payload)) → SpellsBlock definitions payload r
 block_spells definitions payload (Ok block) h = payload_read (block_syntax definitions) payload (view_block block) h.0 (all_bits (bytes_after block)) h.1 h.2
 block_spells definitions payload (Err (Fault f)) h = (block_syntax definitions).reading.fails payload f h
 block_spells definitions payload (Err (Memory a)) h = tt
 
-pub block_valid : (definitions : List Definition) (payload : List ℕ) (r : Result ParameterBlock BlockError) → ReadsBlock r (read (λ f. fault.Field f) (parameter_block definitions) (start_of payload))
+pub block_valid : (definitions : List Definition) (payload : List ℕ) (r : Result ParameterBlock (Unread BlockFault)) → ReadsBlock r (read (λ f. fault.Field f) (parameter_block definitions) (start_of payload))
     → IfOk r (λ block. IsValid (parameter_block definitions) block_fields (view_block block))
 block_valid definitions payload (Ok block) h = let p = block_spells definitions payload (Ok block) h in (block_syntax definitions).valid _ (view_block block) p.spelling p.stands
 block_valid definitions payload (Err e) h = tt

@@ -7,9 +7,9 @@ use Rattle.std.proofs.lemmas.Bool.{eqb-true, eqb-false}
 use Rattle.std.proofs.lemmas.List.{length-map, get_or-map, map_push}
 use Rattle.std.proofs.lemmas.List.Elements.{All-get_or, All-push}
 use Rattle.spec_blocks.specs.Shape.{Definition, shape_of}
-use Rattle.obu_data.specs.declared.definitions.Kept.{Kept}
+use Rattle.obu_data.specs.declared.definition.Definition.{Definition as Kept}
 use Rattle.obu_data.specs.ShapeView.{view_shape, MayDefine}
-use Rattle.obu_data.specs.DefinitionView.{view_kept, place_of, IsIndexed}
+use Rattle.obu_data.specs.DefinitionView.{view_definition, place_of, IsIndexed}
 
 pub no_place : (ds : List Definition) (id : ℕ) → place_of ds id ≡ None → shape_of ds id ≡ None
 no_place [] id e = refl
@@ -78,27 +78,27 @@ places_more ds d old new are absent updated id =
 
 pub record Found (kept : List Kept) (id i : ℕ) : Type 0 where
   pub within : i < length kept
-  pub shape : (k : Kept) → shape_of (map view_kept kept) id ≡ Some (view_shape (get_or kept i k).shape)
+  pub shape : (k : Kept) → shape_of (map view_definition kept) id ≡ Some (view_shape (get_or kept i k).shape)
   pub allowed : (k : Kept) → MayDefine (get_or kept i k).shape
 
 pub found : (kept : List Kept) (places : BTreeMap ℕ ℕ) (id i : ℕ) → IsIndexed kept places → get nat_cmp places id ≡ Some i → Found kept id i
 found kept places id i indexed e =
-    let at = at_place (map view_kept kept) id i (sym (indexed.places_are id) ∙ e) in
-    let within : i < length kept = rw (length-map kept view_kept) at at.0 in
+    let at = at_place (map view_definition kept) id i (sym (indexed.places_are id) ∙ e) in
+    let within : i < length kept = rw (length-map kept view_definition) at at.0 in
     record {
       within = within;
-      shape = λ k. at.1 (view_kept k) ∙ ap (λ (d : Definition). Some d.shape) (get_or-map view_kept kept i k (view_kept k) within);
+      shape = λ k. at.1 (view_definition k) ∙ ap (λ (d : Definition). Some d.shape) (get_or-map view_definition kept i k (view_definition k) within);
       allowed = λ k. All-get_or (λ q. MayDefine q.shape) kept i k within indexed.allowed;
     }
 
-pub not_found : (kept : List Kept) (places : BTreeMap ℕ ℕ) (id : ℕ) → IsIndexed kept places → get nat_cmp places id ≡ None → shape_of (map view_kept kept) id ≡ None
-not_found kept places id indexed e = no_place (map view_kept kept) id (sym (indexed.places_are id) ∙ e)
+pub not_found : (kept : List Kept) (places : BTreeMap ℕ ℕ) (id : ℕ) → IsIndexed kept places → get nat_cmp places id ≡ None → shape_of (map view_definition kept) id ≡ None
+not_found kept places id indexed e = no_place (map view_definition kept) id (sym (indexed.places_are id) ∙ e)
 
-pub indexed_more : (kept : List Kept) (k : Kept) (old new : BTreeMap ℕ ℕ) → IsIndexed kept old → MayDefine k.shape → shape_of (map view_kept kept) k.id ≡ None → Updates nat_cmp old new k.id (Some (length kept)) → IsIndexed (kept ++ k ∷ []) new
+pub indexed_more : (kept : List Kept) (k : Kept) (old new : BTreeMap ℕ ℕ) → IsIndexed kept old → MayDefine k.shape → shape_of (map view_definition kept) k.id ≡ None → Updates nat_cmp old new k.id (Some (length kept)) → IsIndexed (kept ++ k ∷ []) new
 indexed_more kept k old new indexed allowed none updated =
-    let count : length kept ≡ length (map view_kept kept) = sym (length-map kept view_kept) in
+    let count : length kept ≡ length (map view_definition kept) = sym (length-map kept view_definition) in
     record {
       allowed = All-push (λ q. MayDefine q.shape) kept k indexed.allowed allowed;
-      places_are = λ id. places_more (map view_kept kept) (view_kept k) old new indexed.places_are (no_shape (map view_kept kept) k.id none) (subst (λ (n : ℕ). Updates nat_cmp old new k.id (Some n)) count updated) id
-          ∙ ap (λ (ds : List Definition). place_of ds id) (sym (map_push view_kept kept k));
+      places_are = λ id. places_more (map view_definition kept) (view_definition k) old new indexed.places_are (no_shape (map view_definition kept) k.id none) (subst (λ (n : ℕ). Updates nat_cmp old new k.id (Some n)) count updated) id
+          ∙ ap (λ (ds : List Definition). place_of ds id) (sym (map_push view_definition kept k));
     }

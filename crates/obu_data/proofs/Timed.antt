@@ -11,7 +11,7 @@ use Rattle.spec_syntax.specs.Reading.{read}
 use Rattle.spec_syntax.proofs.Reading.{read_bind}
 use Rattle.spec_blocks.specs.declared.fault.BlockFault.TheVariants as fault
 use Rattle.spec_blocks.specs.ParameterBlock.{GainFields, Gain, timed_gain_in, timed_gains}
-use Rattle.obu_data.specs.declared.parameter_block.GainPart.{GainPart}
+use Rattle.obu_data.specs.declared.gain_part.GainPart.{GainPart}
 use Rattle.spec_bits.specs.Bits.{Bits}
 use Rattle.spec_syntax.specs.Payload.{canon}
 use Rattle.spec_syntax.specs.Repetition.{joined}

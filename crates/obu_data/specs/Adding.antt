@@ -3,9 +3,9 @@ use Rattle.std.specs.Prelude.{◌≡◌, ℕ, List, Option, Some, None, Result, 
 use Rattle.std.specs.Borrow.{Bor}
 use Rattle.spec_blocks.specs.Shape as fields
 use Rattle.spec_blocks.specs.Shape.{Definition, shape_of, with_definition}
-use Rattle.obu_data.specs.declared.error.DefinitionError.{DefinitionError}
-use Rattle.obu_data.specs.declared.error.DefinitionError.TheVariants.{Clash, Memory}
-use Rattle.obu_data.specs.declared.shape.Shape.{Shape}
+use Rattle.obu_data.specs.declared.definitions.DefinitionError.{DefinitionError}
+use Rattle.obu_data.specs.declared.definitions.DefinitionError.TheVariants.{Clash, Memory}
+use Rattle.obu_data.specs.declared.definition.Shape.{Shape}
 use Rattle.obu_data.specs.ShapeView.{view_shape}
 
 -- what was found is the shape

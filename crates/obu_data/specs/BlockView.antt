@@ -3,13 +3,13 @@ use Rattle.std.specs.Prelude.{ℕ, List, [], ◌++◌, map, option_map}
 use Rattle.std.specs.List.{zip}
 use Rattle.spec_blocks.specs.ParameterBlock as fields
 use Rattle.obu_descriptors.specs.TimingView.{view_fixed}
-use Rattle.obu_data.specs.declared.parameter_block.GainPart.{GainPart}
-use Rattle.obu_data.specs.declared.parameter_block.GainPart.TheVariants.{Step, Linear, Bezier}
-use Rattle.obu_data.specs.declared.parameter_block.ReconPart.{ReconPart}
-use Rattle.obu_data.specs.declared.parameter_block.Content.{Content}
-use Rattle.obu_data.specs.declared.parameter_block.Content.TheVariants.{Opaque, Gain, Demix, Recon}
+use Rattle.obu_data.specs.declared.gain_part.GainPart.{GainPart}
+use Rattle.obu_data.specs.declared.gain_part.GainPart.TheVariants.{Step, Linear, Bezier}
+use Rattle.obu_data.specs.declared.recon_part.ReconPart.{ReconPart}
+use Rattle.obu_data.specs.declared.parameter_block.BlockContent.{BlockContent}
+use Rattle.obu_data.specs.declared.parameter_block.BlockContent.TheVariants.{Opaque, Gain, Demix, Recon}
 use Rattle.obu_data.specs.declared.parameter_block.ParameterBlock.{ParameterBlock}
-use Rattle.obu_data.specs.declared.parameter_block.gain.Timed.{Timed}
+use Rattle.obu_data.specs.declared.gain_part.Timed.{Timed}
 
 abbrev pub view_gain_part : GainPart → fields.GainFields
 view_gain_part (Step start) = fields.Step start
@@ -26,7 +26,7 @@ view_timed timed = pairs timed.durations.items timed.parts.items
 abbrev pub view_recon_part : ReconPart → fields.ReconFields
 view_recon_part part = record { recon_gain_flags = part.flags; recon_gain = part.gains.items }
 
-abbrev pub view_content : Content → fields.ContentFields
+abbrev pub view_content : BlockContent → fields.ContentFields
 view_content (Opaque bytes) = fields.Opaque
 view_content (Gain timing parts) = fields.Gain (option_map view_fixed timing) (map view_gain_part parts.items)
 view_content (Demix mode) = fields.Demix mode
@@ -36,7 +36,7 @@ abbrev pub view_block : ParameterBlock → fields.BlockFields
 view_block block = record { parameter_id = block.id; content = view_content block.content }
 
 -- the bytes of a content that is no fields
-abbrev pub opaque_bytes : Content → List ℕ
+abbrev pub opaque_bytes : BlockContent → List ℕ
 opaque_bytes (Opaque bytes) = bytes.now
 opaque_bytes _ = []
 
@@ -44,10 +44,10 @@ opaque_bytes _ = []
 abbrev pub bytes_after : ParameterBlock → List ℕ
 bytes_after block = opaque_bytes block.content ++ block.tail.now
 
-abbrev pub IsOpaque : Content → Type 0
+abbrev pub IsOpaque : BlockContent → Type 0
 IsOpaque (Opaque bytes) = Unit {0}
 IsOpaque _ = ⊥
 
-abbrev pub IsKnown : Content → Type 0
+abbrev pub IsKnown : BlockContent → Type 0
 IsKnown (Opaque bytes) = ⊥
 IsKnown _ = Unit {0}

@@ -6,7 +6,7 @@ use Rattle.spec_bits.specs.Cursor.{Cursor, bits_left, bytes_left}
 use Rattle.spec_syntax.specs.Payload.{Payload, Faults}
 use Rattle.spec_blocks.specs.AudioFrame.{audio_frame}
 use Rattle.spec_blocks.specs.BlockFieldLists.{frame_fields}
-use Rattle.obu_header.specs.declared.view.Trim.{Trim}
+use Rattle.spec_obu.specs.declared.trim.Trim.{Trim}
 use Rattle.obu_header.specs.declared.view.ObuView.{ObuView}
 use Rattle.obu_data.specs.declared.frame.FrameView.{FrameView}
 

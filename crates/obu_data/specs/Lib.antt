@@ -1,4 +1,3 @@
-pub mod Outcome
 pub mod ShapeView
 pub mod DefinitionView
 pub mod Adding

@@ -3,8 +3,8 @@ use Rattle.std.specs.Prelude.{◌≡◌, ◌^◌, ◌<◌, ◌≤◌, [], Option
 use Rattle.spec_descriptors.specs.ParameterDefinition.{FixedFields}
 use Rattle.spec_blocks.specs.Shape as fields
 use Rattle.obu_descriptors.specs.TimingView.{view_fixed}
-use Rattle.obu_data.specs.declared.shape.Shape.{Shape}
-use Rattle.obu_data.specs.declared.shape.Shape.TheVariants.{Gain, Demix, Recon}
+use Rattle.obu_data.specs.declared.definition.Shape.{Shape}
+use Rattle.obu_data.specs.declared.definition.Shape.TheVariants.{Gain, Demix, Recon}
 
 -- Demixing and recon gains have a timing in every definition; without one nothing lasts.
 abbrev pub fixed_or_none : Option FixedFields → FixedFields

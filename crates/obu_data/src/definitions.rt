@@ -5,18 +5,22 @@ ghost use Rattle.spec_blocks.specs.Shape.{shape_of};
 ghost use Rattle.obu_data.specs.ShapeView.{view_shape, MayDefine};
 ghost use Rattle.obu_data.specs.Adding.{Finds, Adds};
 
-use crate::error::DefinitionError;
-use crate::shape::Shape;
+use crate::definition::{Definition, Shape};
 use obu_descriptors::{Fixed, Timing};
 use std::alloc::{AllocError, Global};
 use std::collections::BTreeMap;
 use std::marker::Model;
+use thiserror::Error;
 
-/// A definition that is kept.
-#[derive(Drop)]
-struct Kept {
-    id: u32,
-    shape: Shape,
+/// Why a definition is not added.
+#[derive(Debug, Drop, Error)]
+pub enum DefinitionError {
+    /// A definition with this id and another shape is there.
+    #[error("parameter {0} is defined twice")]
+    Clash(u32),
+    /// Memory ran out.
+    #[error("out of memory")]
+    Memory(AllocError),
 }
 
 /// The shapes of all parameters that were defined so far.
@@ -24,7 +28,7 @@ struct Kept {
 /// Contracts see it as the list of the definitions, each an id and its shape, in the order in which they came.
 #[derive(Drop)]
 pub struct Definitions {
-    kept: Vec<Kept>,
+    list: Vec<Definition>,
     places: BTreeMap<u32, usize>,
 }
 
@@ -34,11 +38,11 @@ impl Model for Definitions {
 
     ghost Value = { List Definition };
 
-    ghost use Rattle.obu_data.specs.DefinitionView.{view_kept, IsIndexed};
+    ghost use Rattle.obu_data.specs.DefinitionView.{view_definition, IsIndexed};
 
-    ghost view = { λ d. map view_kept d.kept.items };
+    ghost view = { λ d. map view_definition d.list.items };
 
-    ghost invariant = { λ d. IsIndexed d.kept.items d.places };
+    ghost invariant = { λ d. IsIndexed d.list.items d.places };
 }
 
 /// Whether two timings of all blocks are the same.
@@ -86,7 +90,7 @@ impl Definitions {
         ensures { result ≡ [] }
     {
         Definitions {
-            kept: Vec::new(alloc),
+            list: Vec::new(alloc),
             places: BTreeMap::new(alloc),
         }
     }
@@ -96,12 +100,12 @@ impl Definitions {
         ensures finds { Finds result (shape_of self.now id) }
         ensures allowed { IfSome result (λ shape. MayDefine shape.now) }
     {
-        let kept = self.kept.as_slice();
+        let list = self.list.as_slice();
         match self.places.get(&id) {
             Some(place) => {
                 let place = *place;
-                prove!(place < kept.len());
-                Some(&kept[place].shape)
+                prove!(place < list.len());
+                Some(&list[place].shape)
             }
             None => None,
         }
@@ -116,18 +120,18 @@ impl Definitions {
         requires { MayDefine shape }
         ensures { Adds self.old id (view_shape shape) result self.new }
     {
-        if let Some(kept) = self.find(id) {
-            if same_shape(kept, &shape) {
+        if let Some(known) = self.find(id) {
+            if same_shape(known, &shape) {
                 return Ok(());
             }
             return Err(DefinitionError::Clash(id));
         }
-        let place = self.kept.as_slice().len();
-        if let Err(_) = self.kept.push(Kept { id, shape }) {
+        let place = self.list.as_slice().len();
+        if let Err(_) = self.list.push(Definition { id, shape }) {
             return Err(DefinitionError::Memory(AllocError));
         }
         if let Err(_) = self.places.insert(id, place) {
-            self.kept.pop();
+            self.list.pop();
             return Err(DefinitionError::Memory(AllocError));
         }
         Ok(())

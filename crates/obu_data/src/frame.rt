@@ -1,6 +1,6 @@
 //! Audio frames (IAMF 1.0.0, "Audio Frame OBU Syntax and Semantics").
 ghost use Rattle.std.specs.Prelude.{◌≡◌, ◌≤◌, IfOk};
-ghost use Rattle.spec_bits.specs.Cursor.{IsOnByte};
+ghost use Rattle.spec_bits.specs.Bits.{AreBytes};
 ghost use Rattle.spec_syntax.specs.Reading.{read, start_of};
 ghost use Rattle.spec_blocks.specs.AudioFrame.{audio_frame};
 ghost use Rattle.obu_data.specs.FrameReading.{trim_or_none, ReadsFrame, SpellsFrame};
@@ -24,9 +24,10 @@ pub struct FrameView<'a> {
 fn read_from<'a>(obu: &ObuView<'a>) -> Result<FrameView<'a>, FieldFault>
     requires { 5 ≤ obu.now.head.kind }
     ensures reads { ReadsFrame result (read (λ f. f) (audio_frame obu.now.head.kind) (start_of obu.now.payload.now)) }
+    ensures below { IfOk result (λ frame. AreBytes frame.bytes.now) }
     ensures trim { IfOk result (λ frame. frame.trim ≡ trim_or_none obu.now.head.trim) }
 {
-    let mut view = View::new(obu.payload, 0, obu.payload.len());
+    let mut view = View::whole(obu.payload);
     let substream = if obu.head.kind == 5 {
         view.take_leb()?
     } else {
@@ -56,6 +57,7 @@ pub fn read_frame<'a>(obu: &ObuView<'a>) -> Result<FrameView<'a>, FieldFault>
     ensures spells { SpellsFrame obu.now result }
     ensures trim { IfOk result (λ frame. frame.trim ≡ trim_or_none obu.now.head.trim) }
     ensures reads { ReadsFrame result (read (λ f. f) (audio_frame obu.now.head.kind) (start_of obu.now.payload.now)) }
+    ensures below { IfOk result (λ frame. AreBytes frame.bytes.now) }
 {
     read_from(obu)
 }

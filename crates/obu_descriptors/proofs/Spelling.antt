@@ -1,5 +1,5 @@
 -- The canonical spelling of bytes.
-use Rattle.std.proofs.Common.{◌≡◌, ℕ, ◌+◌, List, [], ◌∷◌, ◌++◌, refl, ap}
+use Rattle.std.proofs.Common.{◌≡◌, ℕ, List, [], ◌∷◌, ◌++◌, refl, ap}
 use Rattle.spec_bits.specs.Bits.{Bits, bits_of, all_bits}
 use Rattle.spec_bits.specs.Form.{Bytes, canonical}
 use Rattle.spec_syntax.specs.Payload.{canon}

@@ -1,9 +1,9 @@
 pub mod Payloads
 pub mod HeaderView
 pub mod SameRecord
+pub mod WrittenPayloads
 pub mod CodecWriting
 pub mod CodecView
-pub mod Outcome
 pub mod TimingView
 pub mod ParameterView
 pub mod LayerView

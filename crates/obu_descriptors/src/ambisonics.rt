@@ -1,17 +1,21 @@
 //! Ambisonics configurations (IAMF 1.0.0, "Ambisonics Config Syntax and Semantics").
 
-ghost use Rattle.std.specs.Prelude.{◌≡◌, [], ◌==◌, ◌||◌, nat_lt};
+ghost use Rattle.std.specs.Prelude.{◌≡◌, [], ◌==◌, ◌||◌, ◌++◌, nat_lt, OnOk};
 ghost use Rattle.std.specs.List.{list_all};
 ghost use Rattle.spec_bits.specs.Cursor.{IsOnByte};
 ghost use Rattle.spec_syntax.specs.Syntax.{each};
 ghost use Rattle.spec_syntax.specs.Reading.{read};
+ghost use Rattle.spec_syntax.specs.Payload.{canon};
+ghost use Rattle.spec_descriptors.specs.Ambisonics.{Mono, Projection};
+ghost use Rattle.spec_descriptors.specs.ElementFields.{ambisonics_fields};
 ghost use Rattle.spec_descriptors.specs.Ambisonics.{is_output_count, mapping_in, ambisonics_mono, ambisonics_projection, ambisonics_config};
-ghost use Rattle.obu_descriptors.specs.Outcome.{TakesPart};
+ghost use Rattle.iamf_bits.specs.Outcome.{TakesPart};
 ghost use Rattle.obu_descriptors.specs.AmbisonicsView.{view_ambisonics};
 
-use iamf_bits::View;
+use iamf_bits::{Out, View};
 use spec_bits::FieldFault;
 use spec_descriptors::DescriptorFault;
+use std::alloc::AllocError;
 
 /// An ambisonics configuration as it stands in a payload.
 pub(crate) enum Ambisonics<'a> {
@@ -140,4 +144,44 @@ pub(crate) fn read_ambisonics<'a>(view: &mut View<'a>) -> Result<Ambisonics<'a>,
     } else {
         read_projection(view)
     }
+}
+
+/// Puts a configuration by `channel_mapping`.
+#[tactic(auto, using(spec_bits::proofs::JoinLaws::joins, crate::proofs::Spelling::bytes_spelled, crate::proofs::Spelling::mapping_spelled))]
+pub(crate) fn put_mono(
+    out: &mut Out,
+    outputs: u8,
+    substreams: u8,
+    mapping: &[u8],
+) -> Result<(), AllocError>
+    requires { out.old.used ≡ 0 }
+    ensures bits { OnOk result (out.new.bits ≡ out.old.bits ++ canon (ambisonics_fields (Mono outputs substreams mapping.now))) }
+    ensures used { OnOk result (out.new.used ≡ 0) }
+{
+    out.put_leb(0)?;
+    out.put_bits(u32::from(outputs), 8)?;
+    out.put_bits(u32::from(substreams), 8)?;
+    out.put_bytes(mapping)?;
+    Ok(())
+}
+
+/// Puts a configuration by `demixing_matrix`.
+#[tactic(auto, using(spec_bits::proofs::JoinLaws::joins, crate::proofs::Spelling::bytes_spelled))]
+pub(crate) fn put_projection(
+    out: &mut Out,
+    outputs: u8,
+    substreams: u8,
+    coupled: u8,
+    matrix: &[u8],
+) -> Result<(), AllocError>
+    requires { out.old.used ≡ 0 }
+    ensures bits { OnOk result (out.new.bits ≡ out.old.bits ++ canon (ambisonics_fields (Projection outputs substreams coupled matrix.now))) }
+    ensures used { OnOk result (out.new.used ≡ 0) }
+{
+    out.put_leb(1)?;
+    out.put_bits(u32::from(outputs), 8)?;
+    out.put_bits(u32::from(substreams), 8)?;
+    out.put_bits(u32::from(coupled), 8)?;
+    out.put_bytes(matrix)?;
+    Ok(())
 }

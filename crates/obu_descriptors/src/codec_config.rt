@@ -1,15 +1,15 @@
 ghost use Rattle.std.specs.Prelude.{◌≡◌, ◌++◌, OnOk, IfOk};
-ghost use Rattle.spec_bits.specs.Bits.{all_bits};
+ghost use Rattle.spec_bits.specs.Bits.{AreBytes, all_bits};
 ghost use Rattle.spec_bits.specs.Cursor.{IsOnByte};
 ghost use Rattle.spec_syntax.specs.Payload.{IsValid, canon};
 ghost use Rattle.spec_syntax.specs.Reading.{read, start_of};
 ghost use Rattle.spec_descriptors.specs.CodecConfig.{CodecConfigFields, lpcm_config, flac_config, codec_config};
 ghost use Rattle.spec_descriptors.specs.DescriptorFields.{codec_config_fields};
-ghost use Rattle.obu_descriptors.specs.Payloads.{AnswersEntry, GivesEntry, GivesPart};
+ghost use Rattle.obu_descriptors.specs.Payloads.{GivesEntry, GivesPart};
+ghost use Rattle.obu_descriptors.specs.WrittenPayloads.{AnswersCodec};
 ghost use Rattle.obu_descriptors.specs.CodecView.{StandsForCoding, StandsForCodec};
 ghost use Rattle.obu_descriptors.specs.CodecWriting.{codec_id_written, coding_written, config_written};
 
-use crate::payload::whole;
 use crate::stream_info::{is_depth, is_rate, read_blocks, read_stream_info};
 use iamf_bits::{Out, View};
 use spec_descriptors::DescriptorFault;
@@ -128,17 +128,19 @@ impl<'a> CodecConfig<'a> {
     /// Reads a payload. An error exactly where the payload begins with no codec config: the fault of its
     /// first field that cannot be read or is not allowed.
     pub fn read(payload: &'a [u8]) -> Result<CodecConfig<'a>, DescriptorFault>
-        ensures exact { AnswersEntry (λ f. DescriptorFault.Field f) codec_config codec_config_fields StandsForCodec (λ c. c.tail.now) result payload.now }
+        ensures exact { AnswersCodec result payload.now }
         ensures valid { IfOk result (λ r. (c : CodecConfigFields) × StandsForCodec r c × IsValid codec_config codec_config_fields c) }
         ensures reads { GivesEntry StandsForCodec (λ c. c.tail.now) result (read (λ f. DescriptorFault.Field f) codec_config (start_of payload.now)) }
+        ensures tail { IfOk result (λ c. AreBytes c.tail.now) }
     {
-        CodecConfig::read_from(&mut whole(payload))
+        CodecConfig::read_from(&mut View::whole(payload))
     }
 
     #[tactic(auto, using(spec_syntax::proofs::Reading::read_bind), unfolding(spec_descriptors::specs::CodecConfig::codec_config))]
     fn read_from(view: &mut View<'a>) -> Result<CodecConfig<'a>, DescriptorFault>
         requires { IsOnByte view.old }
-        ensures { GivesEntry StandsForCodec (λ c. c.tail.now) result (read (λ f. DescriptorFault.Field f) codec_config view.old) }
+        ensures gives { GivesEntry StandsForCodec (λ c. c.tail.now) result (read (λ f. DescriptorFault.Field f) codec_config view.old) }
+        ensures tail { IfOk result (λ c. AreBytes c.tail.now) }
     {
         let id = view.take_leb()?;
         let codec_id = view.take_bits(32)?;
@@ -171,25 +173,37 @@ impl<'a> CodecConfig<'a> {
         })
     }
 
-    /// Writes the canonical payload of a valid record: the fields in their shortest spelling, the metadata blocks
-    /// as they are, and then the tail. An error only where memory is wanting.
-    pub fn write(&self, alloc: Global) -> Result<Vec<u8>, AllocError>
-        requires { (c : CodecConfigFields) × StandsForCodec self.now c × IsValid codec_config codec_config_fields c }
-        ensures { IfOk result (λ v. (c : CodecConfigFields) → StandsForCodec self.now c → all_bits v.items ≡ canon (codec_config_fields c) ++ all_bits self.now.tail.now) }
+    #[tactic(auto, using(spec_bits::proofs::JoinLaws::joins))]
+    fn put_fields(&self, out: &mut Out) -> Result<(), AllocError>
+        requires { out.old.used ≡ 0 }
+        ensures bits { OnOk result (out.new.bits ≡ out.old.bits ++ config_written self.now) }
+        ensures used { OnOk result (out.new.used ≡ 0) }
     {
-        self.written(alloc)
-    }
-
-    #[tactic(auto, using(spec_bits::proofs::JoinLaws::joins, crate::proofs::Spelling::bytes_spelled))]
-    fn written(&self, alloc: Global) -> Result<Vec<u8>, AllocError>
-        ensures { IfOk result (λ v. all_bits v.items ≡ config_written self.now ++ all_bits self.now.tail.now) }
-    {
-        let mut out = Out::new(alloc);
         out.put_leb(self.id)?;
         out.put_bits(codec_id(&self.coding), 32)?;
         out.put_leb(self.frame_length)?;
         out.put_i16(0)?;
-        put_coding(&mut out, &self.coding)?;
+        put_coding(out, &self.coding)?;
+        Ok(())
+    }
+
+    /// Writes the fields of a valid record canonically, without the tail. An error only where memory runs out.
+    pub fn write_fields(&self, alloc: Global) -> Result<Vec<u8>, AllocError>
+        ensures { IfOk result (λ v. (c : CodecConfigFields) → StandsForCodec self.now c → all_bits v.items ≡ canon (codec_config_fields c)) }
+    {
+        let mut out = Out::new(alloc);
+        self.put_fields(&mut out)?;
+        Ok(out.finish())
+    }
+
+    /// Writes the canonical payload of a valid record: the fields in their shortest spelling, the metadata blocks
+    /// as they are, and then the tail. An error only where memory runs out.
+    pub fn write(&self, alloc: Global) -> Result<Vec<u8>, AllocError>
+        requires { (c : CodecConfigFields) × StandsForCodec self.now c × IsValid codec_config codec_config_fields c }
+        ensures { IfOk result (λ v. (c : CodecConfigFields) → StandsForCodec self.now c → all_bits v.items ≡ canon (codec_config_fields c) ++ all_bits self.now.tail.now) }
+    {
+        let mut out = Out::new(alloc);
+        self.put_fields(&mut out)?;
         out.put_bytes(self.tail)?;
         Ok(out.finish())
     }

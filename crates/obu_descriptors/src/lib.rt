@@ -6,11 +6,9 @@ mod audio_element;
 mod channels;
 mod codec_config;
 mod config;
-mod error;
 mod layer;
 mod numbers;
 mod parameter;
-mod payload;
 mod reading_back;
 mod sequence_header;
 mod stream_info;
@@ -22,7 +20,6 @@ pub use audio_element::AudioElement;
 pub use channels::{coded_channels, substream_channels};
 pub use codec_config::{CodecConfig, Coding};
 pub use config::ElementConfig;
-pub use error::DescriptorError;
 pub use layer::{Layer, OutputGain};
 pub use parameter::Param;
 pub use reading_back::{
@@ -31,3 +28,6 @@ pub use reading_back::{
 pub use sequence_header::SequenceHeader;
 pub use spec_descriptors::DescriptorFault;
 pub use timing::{Fixed, Timing, put_timing};
+
+/// Why an audio element is not read.
+pub type DescriptorError = iamf_bits::Unread<DescriptorFault>;

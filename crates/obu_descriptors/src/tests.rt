@@ -1,4 +1,5 @@
 use super::*;
+use smallvec::SmallVec;
 use spec_bits::FieldFault;
 use std::alloc::{AllocError, Global};
 use std::test::Fail;
@@ -155,12 +156,66 @@ fn each_truncation_lacks_a_field(rt: HostRuntime) {
     }
 }
 
+// The header's bytes with another primary profile.
+#[test]
+fn three_profiles_are_read(rt: HostRuntime) -> Result<(), Fail> {
+    for primary in [0, 1, 2] {
+        let mut payload = HEADER;
+        payload[4] = primary;
+        let header = SequenceHeader::read(&payload)?;
+        assert_eq!(rt; header.primary, primary);
+    }
+    Ok(())
+}
+
+// The fields that are written without the tail, and the tail, are what is written whole.
+#[test]
+fn fields_are_written_without_the_tail(rt: HostRuntime) -> Result<(), Fail> {
+    let payload = [0x69, 0x61, 0x6d, 0x66, 0x00, 0x00, 0xa1];
+    let header = SequenceHeader::read(&payload)?;
+    assert_eq!(rt; header.tail, [0xa1].as_slice());
+    let fields = header.write_fields(rt.alloc())?;
+    assert_eq!(rt; fields.as_slice(), HEADER.as_slice());
+    let config = CodecConfig::read(&TWO_BLOCKS)?;
+    assert_eq!(rt; config.tail, [0xa1, 0xa2].as_slice());
+    let fields = config.write_fields(rt.alloc())?;
+    assert_eq!(rt; fields.as_slice(), &TWO_BLOCKS[..53]);
+    Ok(())
+}
+
+#[test]
+fn a_timing_is_copied(rt: HostRuntime) -> Result<(), Fail> {
+    let mut durations = SmallVec::new(rt.alloc());
+    for duration in [3, 5, 1, 1, 2] {
+        durations.push(duration)?;
+    }
+    let timing = Timing {
+        id: 100,
+        rate: 48000,
+        fixed: Some(Fixed {
+            duration: 12,
+            constant: 0,
+            durations,
+        }),
+    };
+    let copy = timing.try_clone(rt.alloc())?;
+    assert_eq!(rt; (copy.id, copy.rate), (100, 48000));
+    match &copy.fixed {
+        Some(fixed) => {
+            assert_eq!(rt; (fixed.duration, fixed.constant), (12, 0));
+            assert_eq!(rt; fixed.durations.as_slice(), [3, 5, 1, 1, 2].as_slice());
+        }
+        None => assert!(rt; false, "no durations"),
+    }
+    Ok(())
+}
+
 #[test]
 fn header_faults(rt: HostRuntime) {
     let table = [
-        ([0x69, 0x61, 0x6d, 0x67, 0x02, 0x00], DescriptorFault::Code),
+        ([0x69, 0x61, 0x6d, 0x67, 0x03, 0x00], DescriptorFault::Code),
         (
-            [0x69, 0x61, 0x6d, 0x66, 0x02, 0x00],
+            [0x69, 0x61, 0x6d, 0x66, 0x03, 0x00],
             DescriptorFault::Profile,
         ),
     ];

@@ -1,31 +1,27 @@
-ghost use Rattle.std.specs.Prelude.{◌≡◌, ◌<◌, ◌≤◌, ◌-◌, length, take, drop, IfOk, IfErr};
+ghost use Rattle.std.specs.Prelude.{◌≡◌, ℕ, ◌<◌, ◌≤◌, ◌-◌, length, take, drop, IfOk, IfErr};
 ghost use Rattle.std.specs.Option.{option_copied};
 ghost use Rattle.spec_bits.specs.Cursor.{IsOnByte, bytes_left};
 ghost use Rattle.iamf_bits.specs.View.{TakesBytes};
-ghost use Rattle.spec_obu.specs.Header.{Header, are_allowed};
+ghost use Rattle.spec_obu.specs.Header.{Header};
 ghost use Rattle.spec_obu.specs.Faults.{IsFirstFault};
 ghost use Rattle.spec_obu.specs.Reading.{trim_at, extension_at, fields_at, header_at};
 ghost use Rattle.spec_obu.specs.Reading;
-ghost use Rattle.obu_header.specs.View.{head_of, trim_of, ReadsFields, ReadsAt};
+ghost use Rattle.obu_header.specs.FirstByte.{Decodes};
+ghost use Rattle.obu_header.specs.View.{head_of, ReadsFields, ReadsAt};
 
-use crate::view::{ObuHead, ObuView, Trim};
+use crate::first_byte::FirstByte;
+use crate::head::ObuHead;
+use crate::view::ObuView;
 use iamf_bits::{FieldFault, View};
-use spec_obu::HeaderFault;
+use spec_obu::{HeaderFault, Trim};
 
 // The most bytes that an OBU has.
 const MAX_OBU: usize = 2097152;
 
-// Whether the flags may stand on the type.
-fn may_have(kind: u8, redundant: bool, trimmed: bool) -> bool
-    ensures { result ≡ are_allowed kind redundant trimmed }
-{
-    (!trimmed || (5 <= kind && kind <= 23)) && (!redundant || kind <= 2 || 24 <= kind)
-}
-
 #[tactic(auto, unfolding(spec_obu::specs::Reading::trim_at))]
 fn read_trim(view: &mut View<'_>, trimmed: bool) -> Result<Option<Trim>, FieldFault>
     requires { IsOnByte view.old }
-    ensures exact { TakesBytes trim_of result (bytes_left view.new) (trim_at trimmed (bytes_left view.old)) }
+    ensures exact { TakesBytes (λ t. t) result (bytes_left view.new) (trim_at trimmed (bytes_left view.old)) }
     ensures on_byte { IsOnByte view.new }
 {
     if !trimmed {
@@ -52,15 +48,15 @@ fn read_extension<'a>(view: &mut View<'a>, extended: bool) -> Result<Option<&'a 
 
 // The head and the payload, where the bytes after the size are these.
 #[tactic(auto, unfolding(spec_obu::specs::Reading::fields_at))]
-fn read_fields(first: u8, part: &[u8]) -> Result<(ObuHead<'_>, &[u8]), FieldFault>
-    ensures { ReadsFields result (fields_at first part.now) }
+fn read_fields(first: FirstByte, part: &[u8]) -> Result<(ObuHead<'_>, &[u8]), FieldFault>
+    ensures { (byte : ℕ) → Decodes first byte → ReadsFields result (fields_at byte part.now) }
 {
-    let mut view = View::new(part, 0, part.len());
-    let trim = read_trim(&mut view, first / 2 % 2 == 1)?;
-    let extension = read_extension(&mut view, first % 2 == 1)?;
+    let mut view = View::whole(part);
+    let trim = read_trim(&mut view, first.trimmed)?;
+    let extension = read_extension(&mut view, first.extended)?;
     let head = ObuHead {
-        kind: first / 8,
-        redundant: first / 4 % 2 == 1,
+        kind: first.kind,
+        redundant: first.redundant,
         trim,
         extension,
     };
@@ -90,8 +86,8 @@ fn read_at<'a>(buffer: &'a [u8], at: usize) -> Result<ObuView<'a>, HeaderFault>
     ensures begins { IfOk result (λ o. at < o.end) }
     ensures within { IfOk result (λ o. o.end ≤ length buffer.now) }
 {
-    let first = buffer[at];
-    let allowed = may_have(first / 8, first / 4 % 2 == 1, first / 2 % 2 == 1);
+    let first = FirstByte::of(buffer[at]);
+    let allowed = first.is_allowed();
     let mut view = View::new(buffer, at + 1, buffer.len());
     let size = match view.take_leb() {
         Ok(size) => size as usize,

@@ -48,6 +48,35 @@ fn faults_come_in_their_order(rt: HostRuntime) {
 }
 
 #[test]
+fn a_type_has_its_numbers(rt: HostRuntime) {
+    let rows = [
+        (0, ObuType::CodecConfig),
+        (1, ObuType::AudioElement),
+        (2, ObuType::MixPresentation),
+        (3, ObuType::ParameterBlock),
+        (4, ObuType::TemporalDelimiter),
+        (5, ObuType::AudioFrame),
+        (23, ObuType::AudioFrame),
+        (24, ObuType::Reserved),
+        (30, ObuType::Reserved),
+        (31, ObuType::SequenceHeader),
+    ];
+    for (kind, obu_type) in rows {
+        let head = ObuHead {
+            kind,
+            redundant: true,
+            trim: None,
+            extension: None,
+        };
+        assert_eq!(rt; head.obu_type(), obu_type, "at {kind}");
+        assert_eq!(rt; head.is_copy(), obu_type != ObuType::Reserved, "at {kind}");
+    }
+}
+
+// An audio frame of substream 0 with both trims, a size of 9, and an extension of one byte.
+const FRAME: &[u8; 8] = b"\x33\x06\x01\x02\x01\x09\x01\x02";
+
+#[test]
 fn an_obu_is_written_canonically(rt: HostRuntime) -> Result<(), Fail> {
     let head = ObuHead {
         kind: 6,
@@ -57,9 +86,13 @@ fn an_obu_is_written_canonically(rt: HostRuntime) -> Result<(), Fail> {
     };
     let mut out = Out::new(rt.alloc());
     write_obu(rt.alloc(), &mut out, &head, &[1, 2])?;
-    assert_eq!(rt;
-        out.finish().as_slice(),
-        b"\x33\x06\x01\x02\x01\x09\x01\x02".as_slice()
-    );
+    put_obu(&mut out, &head, &[1], &[2])?;
+    let written = out.finish();
+    assert_eq!(rt; written.len(), 16);
+    assert_eq!(rt; &written[..8], FRAME.as_slice());
+    let obu = read_obu(written.as_slice(), 8)?;
+    assert_eq!(rt; obu.end, 16);
+    assert_eq!(rt; obu.head.trim, head.trim);
+    assert_eq!(rt; obu.payload, [1, 2].as_slice());
     Ok(())
 }

@@ -1,1 +1,3 @@
 pub mod Answering
+pub mod TagsOfTail
+pub mod WrittenMix

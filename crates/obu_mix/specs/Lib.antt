@@ -1,8 +1,8 @@
-pub mod Outcome
 pub mod MixGainView
 pub mod LoudnessView
 pub mod MixElementView
 pub mod SubMixView
+pub mod TagView
 pub mod MixView
 pub mod MixReading
 pub mod SameMix

@@ -1,8 +1,10 @@
 -- Lists of OBUs of some types: whole OBUs, each with its header, one after the other with nothing between.
-use Rattle.std.specs.Prelude.{◌≡◌, ℕ, zero, suc, ◌==◌, Bool, true, false, not, if◌then◌else◌, List, [], ◌∷◌, length, drop, Option, Some, None, Result, Ok, Err}
+use Rattle.std.specs.Prelude.{◌≡◌, ℕ, zero, suc, Bool, true, false, not, ◌||◌, if◌then◌else◌, List, [], ◌∷◌, length, drop, Option, Some, None, Result, Ok, Err}
 use Rattle.spec_bits.specs.Bits.{AreBytes}
 use Rattle.spec_obu.specs.declared.HeaderFault.{HeaderFault}
-use Rattle.spec_obu.specs.Kinds.{temporal_delimiter, is_descriptor_or_reserved}
+use Rattle.spec_obu.specs.declared.obu_type.ObuType.{ObuType}
+use Rattle.spec_obu.specs.declared.obu_type.ObuType.TheVariants.{TemporalDelimiter}
+use Rattle.spec_obu.specs.Kinds.{obu_type_of, is_descriptor, is_reserved}
 use Rattle.spec_obu.specs.Header.{Header}
 use Rattle.spec_obu.specs.Reading.{Front, header_at}
 use Rattle.spec_obu.specs.Listing.{Obu, joined}
@@ -25,12 +27,19 @@ unfoldable pub are_obus : (ℕ → Bool) → List ℕ → Bool
 are_obus may bytes = obus (length bytes) may bytes
 
 -- what the configuration holds (IAMF 1.0.0, "IA Configuration Box"); that reserved types may stand there is this project's own
+abbrev pub describes : ObuType → Bool
+describes obu_type = is_descriptor obu_type || is_reserved obu_type
+
 abbrev pub in_config : ℕ → Bool
-in_config kind = is_descriptor_or_reserved kind
+in_config kind = describes (obu_type_of kind)
+
+abbrev pub delimits : ObuType → Bool
+delimits TemporalDelimiter = true
+delimits _ = false
 
 -- what a sample holds (IAMF 1.0.0, "IA Sample Format")
 abbrev pub in_sample : ℕ → Bool
-in_sample kind = not (kind == temporal_delimiter)
+in_sample kind = not (delimits (obu_type_of kind))
 
 -- Whole OBUs that each pass a test.
 abbrev pub AllPass : (Obu → Bool) → List Obu → Type 0

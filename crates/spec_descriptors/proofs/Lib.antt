@@ -8,3 +8,4 @@ pub mod ElementIs
 pub mod ElementCounts
 pub mod MixGainSteps
 pub mod MixSteps
+pub mod TagReading

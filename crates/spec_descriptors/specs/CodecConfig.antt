@@ -3,6 +3,7 @@
 use Rattle.std.specs.Prelude.{ℕ, ℤ, pos, negsuc, ◌+◌, Bool, true, not, ◌&&◌, ◌||◌, List, [], ◌∷◌, nat_lt, ◌==◌}
 use Rattle.spec_bits.specs.Form.{Number, Signed, Leb128, Bytes, Blocks}
 use Rattle.spec_syntax.specs.Syntax.{Syntax, End, Choice, field, refuse, ◌>>=◌}
+pub use Rattle.spec_samples.specs.Lpcm.{is_depth}
 use Rattle.spec_descriptors.specs.declared.fault.DescriptorFault.{DescriptorFault}
 use Rattle.spec_descriptors.specs.declared.fault.DescriptorFault.TheVariants as fault
 
@@ -30,12 +31,9 @@ pub record CodecConfigFields : Type 0 where
   pub num_samples_per_frame : ℕ
   pub coding : CodingFields
 
--- the sample rates and depths of this profile
+-- the sample rates of this profile
 abbrev pub is_rate : ℕ → Bool
 is_rate n = n == 16000 || n == 32000 || n == 44100 || n == 48000 || n == 96000
-
-abbrev pub is_depth : ℕ → Bool
-is_depth n = n == 16 || n == 24 || n == 32
 
 abbrev pub is_not_zero : ℤ → Bool
 is_not_zero (pos n) = not (n == 0)

@@ -11,3 +11,5 @@ pub mod MixPresentation
 pub mod TimingFields
 pub mod ElementFields
 pub mod MixFields
+pub mod Tags
+pub mod TagLaws

@@ -11,7 +11,7 @@ pub enum DescriptorFault {
     Field(FieldFault),
     /// `ia_code` is not `iamf`.
     Code,
-    /// `primary_profile` is above 1.
+    /// `primary_profile` is above 2.
     Profile,
     /// `codec_id` is `Opus`.
     Opus,

@@ -5,8 +5,10 @@ mod element_laws;
 mod fault;
 mod laws;
 mod mix_laws;
+mod tag_laws;
 
 pub use element_laws::{audio_element_law, substream_channels_law};
 pub use fault::{DescriptorFault, MixFault};
 pub use laws::{codec_config_law, sequence_header_law};
 pub use mix_laws::mix_presentation_law;
+pub use tag_laws::one_reading_of_tags;

@@ -1,59 +1,45 @@
 -- The types of OBUs in a body.
-use Rattle.std.proofs.Common.{◌≡◌, ℕ, ◌≤◌, Bool, true, false, List, [], ◌∷◌, refl, ap, arith}
-use Rattle.std.specs.Prelude.{◌==◌, nat_le, ◌&&◌, ◌||◌, not}
-use Rattle.std.proofs.lemmas.Bool.{eqb-true, leb-true, ne_eqb, lt-leb}
+use Rattle.std.proofs.Common.{◌≡◌, ℕ, Bool, true, false, List, [], ◌∷◌, refl, ap, ◌∙◌}
+use Rattle.std.specs.Prelude.{◌&&◌, not}
+use Rattle.std.proofs.lemmas.Bool.{and_parts}
+use Rattle.spec_obu.specs.declared.obu_type.ObuType.{ObuType}
+use Rattle.spec_obu.specs.declared.obu_type.ObuType.TheVariants.{SequenceHeader, CodecConfig, AudioElement, MixPresentation, ParameterBlock, AudioFrame}
+use Rattle.spec_obu.specs.Kinds.{obu_type_of}
+use Rattle.spec_obu.specs.Kinds as kinds
 use Rattle.spec_obu.specs.Listing.{Obu}
-use Rattle.spec_boxes.specs.ObuLists.{are_obus, in_config, in_sample, AllPass, WholeObus, of_kind}
+use Rattle.spec_boxes.specs.ObuLists.{are_obus, describes, delimits, in_config, in_sample, AllPass, WholeObus, of_kind}
 use Rattle.spec_boxes.proofs.WholeLaws.{whole_are}
-use Rattle.spec_files.specs.Body.{is_descriptor, is_data, is_delimiter}
+use Rattle.spec_files.specs.Body.{carries, is_descriptor, is_data, is_delimiter}
 
--- A descriptor is no data and no delimiter, and data is no descriptor and no delimiter.
-and_true : (a b : Bool) → (a && b) ≡ true → (a ≡ true) × (b ≡ true)
-and_true true b h = (refl, h)
-and_true false b h = cc
+-- A descriptor is no delimiter, and data is no descriptor and no delimiter.
+describing : (t : ObuType) → kinds.is_descriptor t ≡ true → (delimits t ≡ false) × (describes t ≡ true)
+describing SequenceHeader h = (refl, refl)
+describing CodecConfig h = (refl, refl)
+describing AudioElement h = (refl, refl)
+describing MixPresentation h = (refl, refl)
+describing _ h = absurd cc
 
--- the kinds of descriptors and of data
-by_kind : (a b : Bool) (k : ℕ) → (nat_le k 2 ≡ a) → ((k == 31) ≡ b) → (a || b) ≡ true → (k ≡ 4 → ⊥)
-by_kind true b k p q h four = let l : k ≤ 2 = leb-true k 2 p in omega arith
-by_kind false true k p q h four = let l : k ≡ 31 = eqb-true k 31 q in omega arith
-by_kind false false k p q h four = let n : false ≡ true = h in elim (no n) [ ] where
-  no : false ≡ true → ⊥
-  no e = cc
+carrying : (t : ObuType) → carries t ≡ true → (delimits t ≡ false) × (kinds.is_descriptor t ≡ false)
+carrying ParameterBlock h = (refl, refl)
+carrying AudioFrame h = (refl, refl)
+carrying _ h = absurd cc
 
 pub descriptor_not_delimiter : (o : Obu) → is_descriptor o ≡ true → is_delimiter o ≡ false
-descriptor_not_delimiter o h = ne_eqb o.head.kind 4 (by_kind (nat_le o.head.kind 2) (o.head.kind == 31) o.head.kind refl refl (and_true _ _ h).1)
-
-data_kind : (a b : Bool) (k : ℕ) → ((k == 3) ≡ a) → ((nat_le 5 k && nat_le k 23) ≡ b) → (a || b) ≡ true → (k ≡ 4 → ⊥) × (nat_le k 2 ≡ false) × ((k == 31) ≡ false)
-data_kind true b k p q h = let l : k ≡ 3 = eqb-true k 3 p in ((λ four. omega arith), lt-leb k 2 (omega arith), ne_eqb k 31 (λ e. omega arith))
-data_kind false true k p q h =
-    let r = and_true (nat_le 5 k) (nat_le k 23) q in
-    let low : 5 ≤ k = leb-true 5 k r.0 in
-    let high : k ≤ 23 = leb-true k 23 r.1 in
-    ((λ four. omega arith), lt-leb k 2 (omega arith), ne_eqb k 31 (λ e. omega arith))
-data_kind false false k p q h = absurd (no h) where
-  no : false ≡ true → ⊥
-  no e = cc
+descriptor_not_delimiter o h = (describing (obu_type_of o.head.kind) (and_parts (not o.head.redundant) (kinds.is_descriptor (obu_type_of o.head.kind)) h).1).0
 
 pub data_not_delimiter : (o : Obu) → is_data o ≡ true → is_delimiter o ≡ false
-data_not_delimiter o h = ne_eqb o.head.kind 4 (data_kind (o.head.kind == 3) (nat_le 5 o.head.kind && nat_le o.head.kind 23) o.head.kind refl refl h).0
+data_not_delimiter o h = (carrying (obu_type_of o.head.kind) h).0
 
 and_false : (b : Bool) → (b && false) ≡ false
 and_false true = refl
 and_false false = refl
 
 pub data_not_descriptor : (o : Obu) → is_data o ≡ true → is_descriptor o ≡ false
-data_not_descriptor o h =
-    let d = data_kind (o.head.kind == 3) (nat_le 5 o.head.kind && nat_le o.head.kind 23) o.head.kind refl refl h in
-    rw (d.1, d.2) (and_false (not o.head.redundant))
+data_not_descriptor o h = ap (λ b. not o.head.redundant && b) (carrying (obu_type_of o.head.kind) h).1 ∙ and_false (not o.head.redundant)
 
 -- what holds descriptors may hold these, and a sample may hold data
-by_low : (a b : Bool) (k : ℕ) → nat_le k 2 ≡ a → (k == 31) ≡ b → (a || b) ≡ true → in_config k ≡ true
-by_low true b k p q h = rw p refl
-by_low false true k p q h = let e : k ≡ 31 = eqb-true k 31 q in rw e refl
-by_low false false k p q h = cc
-
 descriptor_may : (o : Obu) → is_descriptor o ≡ true → in_config o.head.kind ≡ true
-descriptor_may o h = by_low (nat_le o.head.kind 2) (o.head.kind == 31) o.head.kind refl refl (and_true _ _ h).1
+descriptor_may o h = (describing (obu_type_of o.head.kind) (and_parts (not o.head.redundant) (kinds.is_descriptor (obu_type_of o.head.kind)) h).1).1
 
 data_may : (o : Obu) → is_data o ≡ true → in_sample o.head.kind ≡ true
 data_may o h = ap not (data_not_delimiter o h)

@@ -1,21 +1,29 @@
 -- The body of a sequence: its descriptors and its temporal units, without delimiters, reserved OBUs and redundant
 -- copies; and the bare sequence that is built again of a body (IAMF 1.0.0, "IA Sequence").
-use Rattle.std.specs.Prelude.{◌≡◌, ℕ, ◌==◌, nat_le, Bool, not, true, ◌&&◌, ◌||◌, if◌then◌else◌, List, [], ◌∷◌, ◌++◌, All}
+use Rattle.std.specs.Prelude.{◌≡◌, ℕ, Bool, not, true, false, ◌&&◌, if◌then◌else◌, List, [], ◌∷◌, ◌++◌, All}
 use Rattle.std.specs.List.{flat_map}
-use Rattle.spec_obu.specs.Kinds.{mix_presentation, sequence_header, parameter_block, temporal_delimiter, is_audio_frame}
+use Rattle.spec_obu.specs.declared.obu_type.ObuType.{ObuType}
+use Rattle.spec_obu.specs.declared.obu_type.ObuType.TheVariants.{ParameterBlock, AudioFrame}
+use Rattle.spec_obu.specs.Kinds.{obu_type_of}
+use Rattle.spec_obu.specs.Kinds as kinds
 use Rattle.spec_obu.specs.Listing.{Obu}
-use Rattle.spec_boxes.specs.ObuLists.{WholeObus}
+use Rattle.spec_boxes.specs.ObuLists.{delimits, WholeObus}
 
 -- a codec config, an audio element, a mix presentation or a sequence header, and no copy of one
 abbrev pub is_descriptor : Obu → Bool
-is_descriptor o = not o.head.redundant && (nat_le o.head.kind mix_presentation || (o.head.kind == sequence_header))
+is_descriptor o = not o.head.redundant && kinds.is_descriptor (obu_type_of o.head.kind)
 
 -- a parameter block or an audio frame
+abbrev pub carries : ObuType → Bool
+carries ParameterBlock = true
+carries AudioFrame = true
+carries _ = false
+
 abbrev pub is_data : Obu → Bool
-is_data o = (o.head.kind == parameter_block) || is_audio_frame o.head.kind
+is_data o = carries (obu_type_of o.head.kind)
 
 abbrev pub is_delimiter : Obu → Bool
-is_delimiter o = o.head.kind == temporal_delimiter
+is_delimiter o = delimits (obu_type_of o.head.kind)
 
 abbrev pub is_any : Obu → Bool
 is_any o = true

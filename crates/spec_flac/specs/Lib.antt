@@ -5,3 +5,4 @@ pub mod Subframe
 pub mod Frame
 pub mod Equations
 pub mod FrameLaws
+pub mod FirstFault

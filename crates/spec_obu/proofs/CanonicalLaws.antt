@@ -1,19 +1,20 @@
 -- The canonical spelling of a header is one wherever there is one, and the shortest.
 use Rattle.std.proofs.Common.{ℕ, ◌≤◌, List, ◌++◌, length, Option, Some, None, refl, ap, arith, length-append}
 use Rattle.spec_bits.specs.Leb.{leb_bytes}
+use Rattle.spec_obu.specs.declared.trim.Trim.{Trim}
 use Rattle.spec_obu.specs.Header.{Head, Header, IsTrim, IsExtension}
 use Rattle.spec_obu.specs.Canonical.{canonical_trim, canonical_extension, canonical_body, canonical_header}
 use Rattle.spec_obu.specs.Laws.{CanonicalIsHeader, CanonicalIsShortest}
 use Rattle.spec_bits.proofs.CanonLaws.{leb_canonical, leb_shortest, leb_mono}
 
-trim_is : (t : Option (ℕ × ℕ)) (b : List ℕ) → IsTrim t b → IsTrim t (canonical_trim t)
+trim_is : (t : Option Trim) (b : List ℕ) → IsTrim t b → IsTrim t (canonical_trim t)
 trim_is None b is = refl
-trim_is (Some t) b is = (leb_bytes t.0, leb_bytes t.1, (leb_canonical t.0 is.2.below).1, (leb_canonical t.1 is.3.below).1, refl)
+trim_is (Some t) b is = (leb_bytes t.end, leb_bytes t.start, (leb_canonical t.end is.2.below).1, (leb_canonical t.start is.3.below).1, refl)
 
-trim_short : (t : Option (ℕ × ℕ)) (b : List ℕ) → IsTrim t b → length (canonical_trim t) ≤ length b
+trim_short : (t : Option Trim) (b : List ℕ) → IsTrim t b → length (canonical_trim t) ≤ length b
 trim_short None b is = omega arith
 trim_short (Some t) b is =
-    omega (arith, leb_shortest t.0 is.0 is.2, leb_shortest t.1 is.1 is.3, length-append (leb_bytes t.0) (leb_bytes t.1), ap length is.4, length-append is.0 is.1)
+    omega (arith, leb_shortest t.end is.0 is.2, leb_shortest t.start is.1 is.3, length-append (leb_bytes t.end) (leb_bytes t.start), ap length is.4, length-append is.0 is.1)
 
 extension_is : (x : Option (List ℕ)) (b : List ℕ) → IsExtension x b → IsExtension x (canonical_extension x)
 extension_is None b is = refl

@@ -1,20 +1,17 @@
 -- The trims and the extension are read exactly on their spellings, and fail exactly on their faults.
-use Rattle.std.proofs.Common.{◌≡◌, ℕ, ◌<◌, ◌⊎◌, inl, inr, Bool, true, false, List, [], ◌++◌, length, take, drop, Option, Some, None, is_some, Result, Ok, Err, refl, sym, ap, subst, ◌∙◌, arith, append_assoc, length-append}
+use Rattle.std.proofs.Common.{◌≡◌, ℕ, ◌<◌, inl, inr, Bool, true, false, List, [], ◌++◌, length, take, drop, Option, Some, None, is_some, Ok, Err, refl, sym, ap, subst, ◌∙◌, arith, append_assoc, length-append}
 use Rattle.std.proofs.lemmas.List.{length-take, take-append-drop}
 use Rattle.std.proofs.lemmas.Bool.{cases_lt, lt-ltb, le-ltb}
 use Rattle.std.proofs.Math.Seq.{take-append_seam, drop-append_seam}
 use Rattle.spec_bits.specs.declared.FieldFault.{FieldFault}
 use Rattle.spec_bits.specs.declared.FieldFault.TheVariants as field
 use Rattle.spec_bits.specs.ByteReading.{◌>>=◌, leb_at, bytes_at}
-use Rattle.spec_bits.proofs.Outcomes.{ok_is}
+use Rattle.spec_bits.proofs.Outcomes.{ok_is, bind_ok, bind_err}
 use Rattle.spec_bits.proofs.LebLaws.{leb_read, leb_again, leb_fails, leb_fails_only}
+use Rattle.spec_obu.specs.declared.trim.Trim.{Trim}
 use Rattle.spec_obu.specs.Header.{Head, IsTrim, IsExtension, kind_of, is_redundant, is_trimmed, is_extended}
 use Rattle.spec_obu.specs.Faults.{NumberFails, AfterNumber, TrimsFail, ExtensionFails, AfterTrims, FieldsFail}
 use Rattle.spec_obu.specs.Reading.{trim_at, extension_at, fields_at}
-
-pub bind_ok : {A B : Type 0} (r : Result A FieldFault) (f : A → Result B FieldFault) (y : B) → (r >>= f) ≡ Ok y → (x : A) × (r ≡ Ok x) × (f x ≡ Ok y)
-bind_ok (Ok x) f y e = (x, refl, e)
-bind_ok (Err d) f y e = absurd cc
 
 -- ---- the parts
 
@@ -36,29 +33,29 @@ pub bytes_again : (text rest : List ℕ) → bytes_at (length text) (text ++ res
 unfolding bytes_at
 bytes_again text rest = rw (le-ltb (length (text ++ rest)) (length text) (omega (arith, length-append text rest)), take-append_seam text rest, drop-append_seam text rest) refl
 
-pub record TrimRead (b : Bool) (bytes : List ℕ) (t : Option (ℕ × ℕ)) (rest : List ℕ) : Type 0 where
+pub record TrimRead (b : Bool) (bytes : List ℕ) (t : Option Trim) (rest : List ℕ) : Type 0 where
   pub text : List ℕ
   pub is : IsTrim t text
   pub there : is_some t ≡ b
   pub parts : bytes ≡ text ++ rest
 
-pub trim_read : (b : Bool) (bytes : List ℕ) (y : Option (ℕ × ℕ) × List ℕ) → trim_at b bytes ≡ Ok y → TrimRead b bytes y.0 y.1
+pub trim_read : (b : Bool) (bytes : List ℕ) (y : Option Trim × List ℕ) → trim_at b bytes ≡ Ok y → TrimRead b bytes y.0 y.1
 unfolding trim_at
-trim_read false bytes y e = subst (λ (p : Option (ℕ × ℕ) × List ℕ). TrimRead false bytes p.0 p.1) (ok_is {F = FieldFault} (None, bytes) y e) (record { text = []; is = refl; there = refl; parts = refl })
+trim_read false bytes y e = subst (λ (p : Option Trim × List ℕ). TrimRead false bytes p.0 p.1) (ok_is {F = FieldFault} (None, bytes) y e) (record { text = []; is = refl; there = refl; parts = refl })
 trim_read true bytes y e =
-    let a = bind_ok (leb_at bytes) (λ end. leb_at end.1 >>= λ start. Ok (Some (end.0, start.0), start.1)) y e in
-    let b = bind_ok (leb_at a.0.1) (λ start. Ok (Some (a.0.0, start.0), start.1)) y a.2 in
+    let a = bind_ok (leb_at bytes) (λ end. leb_at end.1 >>= λ start. Ok (Some (record { end = end.0; start = start.0 }), start.1)) y e in
+    let b = bind_ok (leb_at a.0.1) (λ start. Ok (Some (record { end = a.0.0; start = start.0 }), start.1)) y a.2 in
     let p = leb_read bytes a.0.1 a.0.0 a.1 in
     let q = leb_read a.0.1 b.0.1 b.0.0 b.1 in
-    subst (λ (p : Option (ℕ × ℕ) × List ℕ). TrimRead true bytes p.0 p.1) (ok_is {F = FieldFault} (Some (a.0.0, b.0.0), b.0.1) y b.2)
+    subst (λ (p : Option Trim × List ℕ). TrimRead true bytes p.0 p.1) (ok_is {F = FieldFault} (Some (record { end = a.0.0; start = b.0.0 }), b.0.1) y b.2)
     (record { text = p.0 ++ q.0; is = (p.0, q.0, p.1, q.1, refl); there = refl; parts = regrouped bytes p.0 a.0.1 q.0 b.0.1 p.2 q.2 })
 
-pub trim_again : (t : Option (ℕ × ℕ)) (text rest : List ℕ) → IsTrim t text → trim_at (is_some t) (text ++ rest) ≡ Ok (t, rest)
+pub trim_again : (t : Option Trim) (text rest : List ℕ) → IsTrim t text → trim_at (is_some t) (text ++ rest) ≡ Ok (t, rest)
 unfolding trim_at
 trim_again None text rest is = rw is refl
 trim_again (Some t) text rest is =
     let regrouped : text ++ rest ≡ is.0 ++ (is.1 ++ rest) = ap (λ (x : List ℕ). x ++ rest) is.4 ∙ append_assoc is.0 is.1 rest in
-    rw (regrouped, leb_again is.0 (is.1 ++ rest) t.0 is.2, leb_again is.1 rest t.1 is.3) refl
+    rw (regrouped, leb_again is.0 (is.1 ++ rest) t.end is.2, leb_again is.1 rest t.start is.3) refl
 
 pub record ExtensionRead (b : Bool) (bytes : List ℕ) (x : Option (List ℕ)) (rest : List ℕ) : Type 0 where
   pub text : List ℕ
@@ -117,10 +114,6 @@ fields_read x bytes y e =
 
 -- ---- the faults
 
-bind_err : {A B : Type 0} (r : Result A FieldFault) (f : A → Result B FieldFault) (d : FieldFault) → (r >>= f) ≡ Err d → (r ≡ Err d) ⊎ ((x : A) × (r ≡ Ok x) × (f x ≡ Err d))
-bind_err (Ok x) f d e = inr (x, refl, e)
-bind_err (Err g) f d e = inl cc
-
 -- a number and then what follows it
 after_number : (P : ℕ → List ℕ → Type 0) (b rest : List ℕ) (v : ℕ) → leb_at b ≡ Ok (v, rest) → P v rest → AfterNumber P b
 after_number P b rest v e has =
@@ -131,9 +124,9 @@ trim_fails : (trimmed : Bool) (b : List ℕ) (d : FieldFault) → trim_at trimme
 unfolding trim_at
 trim_fails false b d e = absurd cc
 trim_fails true b d e =
-    elim (bind_err (leb_at b) (λ end. leb_at end.1 >>= λ start. Ok (Some (end.0, start.0), start.1)) d e) [
+    elim (bind_err (leb_at b) (λ end. leb_at end.1 >>= λ start. Ok (Some (record { end = end.0; start = start.0 }), start.1)) d e) [
       | inl a ↦ (refl, inl (d, leb_fails b d a))
-      | inr a ↦ elim (bind_err (leb_at a.0.1) (λ start. Ok (Some (a.0.0, start.0), start.1)) d a.2) [
+      | inr a ↦ elim (bind_err (leb_at a.0.1) (λ start. Ok (Some (record { end = a.0.0; start = start.0 }), start.1)) d a.2) [
         | inl c ↦ (refl, inr (after_number (λ _ rest. NumberFails rest) b a.0.1 a.0.0 a.1 (d, leb_fails a.0.1 d c)))
         | inr c ↦ absurd cc
       ]

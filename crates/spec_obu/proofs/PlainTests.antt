@@ -11,6 +11,7 @@ use Rattle.spec_bits.proofs.Outcomes.{ok_is}
 use Rattle.spec_bits.proofs.LebLaws.{leb_again, leb_fails_only}
 use Rattle.spec_obu.specs.declared.HeaderFault.{HeaderFault}
 use Rattle.spec_obu.specs.declared.HeaderFault.TheVariants.{Leb, ObuSize, Flags, HeaderSize, Cut}
+use Rattle.spec_obu.specs.declared.trim.Trim.{Trim}
 use Rattle.spec_obu.specs.Header.{is_trimmed, is_extended}
 use Rattle.spec_obu.specs.Faults.{SizeIs, NumberFails, AfterNumber, TrimsFail, ExtensionFails, AfterTrims, FieldsFail, SizeFails, IsTooLong, FlagsFail, IsCut, BodyFails, IsFirstFault}
 use Rattle.spec_obu.specs.Reading.{trim_at}
@@ -90,7 +91,7 @@ extension_some b n v is = (
 
 pub trims_some : (trimmed : Bool) (b : List ℕ) (m k e s : ℕ) → trimmed ≡ true → IsLeb e (take m b) → IsLeb s (take k (drop m b)) → AfterTrims trimmed (λ rest. rest ≡ drop (m + k) b) b
 trims_some trimmed b m k e s there a c = record {
-  trim = Some (e, s);
+  trim = Some (record { end = e; start = s });
   front = take m b ++ take k (drop m b);
   rest = drop (m + k) b;
   there = sym there;
@@ -111,7 +112,7 @@ trims_excluded b rest trimmed there a f =
 one_rest : (b rest : List ℕ) (trimmed : Bool) (a : AfterTrims trimmed (λ r. r ≡ rest) b) (c : AfterTrims trimmed ExtensionFails b) → c.rest ≡ rest
 one_rest b rest trimmed a c =
     let same = ok_is {F = FieldFault} (c.trim, c.rest) (a.trim, a.rest) (sym (trims_at trimmed ExtensionFails b c) ∙ trims_at trimmed (λ r. r ≡ rest) b a) in
-    ap (λ (p : Option (ℕ × ℕ) × List ℕ). p.1) same ∙ a.has
+    ap (λ (p : Option Trim × List ℕ). p.1) same ∙ a.has
 
 after_trims : (x : ℕ) (b rest : List ℕ) → AfterTrims (is_trimmed x) (λ r. r ≡ rest) b → FieldsFail x b → (is_extended x ≡ true) × ExtensionFails rest
 after_trims x b rest a (inl s) = absurd (trims_excluded b rest (is_trimmed x) s.0 a s.1)

@@ -2,11 +2,12 @@
 -- (IAMF 1.0.0, "OBU Header Syntax and Semantics" and "leb128()").
 use Rattle.std.specs.Prelude.{ℕ, List, [], ◌∷◌, ◌++◌, length, Option, Some, None}
 use Rattle.spec_bits.specs.Leb.{leb_bytes}
+use Rattle.spec_obu.specs.declared.trim.Trim.{Trim}
 use Rattle.spec_obu.specs.Header.{Head, first_byte}
 
-abbrev pub canonical_trim : Option (ℕ × ℕ) → List ℕ
+abbrev pub canonical_trim : Option Trim → List ℕ
 canonical_trim None = []
-canonical_trim (Some t) = leb_bytes t.0 ++ leb_bytes t.1
+canonical_trim (Some t) = leb_bytes t.end ++ leb_bytes t.start
 
 abbrev pub canonical_extension : Option (List ℕ) → List ℕ
 canonical_extension None = []

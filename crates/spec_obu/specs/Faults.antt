@@ -6,6 +6,7 @@ use Rattle.spec_bits.specs.declared.FieldFault.TheVariants as field
 use Rattle.spec_bits.specs.Leb.{IsLeb, LebFault, EndsAtLast, leb_value}
 use Rattle.spec_obu.specs.declared.HeaderFault.{HeaderFault}
 use Rattle.spec_obu.specs.declared.HeaderFault.TheVariants.{Leb, ObuSize, Flags, HeaderSize, Cut}
+use Rattle.spec_obu.specs.declared.trim.Trim.{Trim}
 use Rattle.spec_obu.specs.Header.{IsTrim, is_trimmed, is_extended, flags_allowed}
 
 -- `obu_size` is whole: the n bytes after the first byte are its field, up to the first byte below 128, and it says v
@@ -38,7 +39,7 @@ ExtensionFails b = NumberFails b ⊎ AfterNumber (λ size rest. length rest < si
 
 -- the trims, where the flag says that there are some, are spelled at the front of the bytes, and the bytes after them are so
 pub record AfterTrims (trimmed : Bool) (P : List ℕ → Type 0) (b : List ℕ) : Type 0 where
-  pub trim : Option (ℕ × ℕ)
+  pub trim : Option Trim
   pub front : List ℕ
   pub rest : List ℕ
   pub there : is_some trim ≡ trimmed

@@ -1,20 +1,25 @@
 -- The header of an OBU and its spellings (IAMF 1.0.0, "OBU Header Syntax and Semantics").
 use Rattle.std.specs.Prelude.{◌≡◌, ℕ, ◌+◌, ◌*◌, ◌/◌, ◌%◌, ◌^◌, ◌<◌, ◌≤◌, Bool, ◌&&◌, ◌||◌, not, ◌==◌, if◌then◌else◌, is_some, IsTrue, List, [], ◌∷◌, ◌++◌, length, Option, Some, None}
 use Rattle.spec_bits.specs.Leb.{IsLeb}
-use Rattle.spec_obu.specs.Kinds.{is_audio_frame, is_descriptor_or_reserved}
+use Rattle.spec_obu.specs.declared.obu_type.ObuType.{ObuType}
+use Rattle.spec_obu.specs.declared.trim.Trim.{Trim}
+use Rattle.spec_obu.specs.Kinds.{obu_type_of, is_data, is_audio_frame, is_reserved}
 
--- What the fields of a header say, without how they are spelled. `kind` is `obu_type`; a trim is
--- `num_samples_to_trim_at_end` and then `num_samples_to_trim_at_start`; an extension is its bytes.
+-- What the fields of a header say, without how they are spelled. `kind` is `obu_type`; an extension is its bytes.
 pub record Head : Type 0 where
   pub kind : ℕ
   pub redundant : Bool
-  pub trim : Option (ℕ × ℕ)
+  pub trim : Option Trim
   pub extension : Option (List ℕ)
 
 -- The trimming flag stands on audio frames alone, and the redundant flag on descriptors and reserved types alone.
 -- That a flag anywhere else is refused is this project's own rule.
-abbrev pub are_allowed : ℕ → Bool → Bool → Bool
-are_allowed kind redundant trimmed = (not trimmed || is_audio_frame kind) && (not redundant || is_descriptor_or_reserved kind)
+abbrev pub are_allowed : ObuType → Bool → Bool → Bool
+are_allowed obu_type redundant trimmed = (not trimmed || is_audio_frame obu_type) && (not redundant || not (is_data obu_type))
+
+-- a redundant copy of a descriptor; of a reserved type the flag says nothing
+abbrev pub is_copy : Head → Bool
+is_copy h = h.redundant && not (is_reserved (obu_type_of h.kind))
 
 abbrev pub digit : Bool → ℕ
 digit b = if b then 1 else 0
@@ -23,9 +28,9 @@ digit b = if b then 1 else 0
 abbrev pub first_byte : Head → ℕ
 first_byte h = 8 * h.kind + 4 * digit h.redundant + 2 * digit (is_some h.trim) + digit (is_some h.extension)
 
-abbrev pub IsTrim : Option (ℕ × ℕ) → List ℕ → Type 0
+abbrev pub IsTrim : Option Trim → List ℕ → Type 0
 IsTrim None b = b ≡ []
-IsTrim (Some t) b = (e : List ℕ) × (s : List ℕ) × IsLeb t.0 e × IsLeb t.1 s × (b ≡ e ++ s)
+IsTrim (Some t) b = (e : List ℕ) × (s : List ℕ) × IsLeb t.end e × IsLeb t.start s × (b ≡ e ++ s)
 
 -- `extension_header_size`, and so many bytes
 abbrev pub IsExtension : Option (List ℕ) → List ℕ → Type 0
@@ -43,7 +48,7 @@ pub record Header (h : Head) (payload b : List ℕ) : Type 0 where
   pub trim_is : IsTrim h.trim trim
   pub extension_is : IsExtension h.extension extension
   pub kind_is : h.kind < 32
-  pub allowed : IsTrue (are_allowed h.kind h.redundant (is_some h.trim))
+  pub allowed : IsTrue (are_allowed (obu_type_of h.kind) h.redundant (is_some h.trim))
   pub short : length b ≤ 2 ^ 21
 
 -- what a first byte says
@@ -61,4 +66,4 @@ abbrev pub is_extended : ℕ → Bool
 is_extended x = x % 2 == 1
 
 abbrev pub flags_allowed : ℕ → Bool
-flags_allowed x = are_allowed (kind_of x) (is_redundant x) (is_trimmed x)
+flags_allowed x = are_allowed (obu_type_of (kind_of x)) (is_redundant x) (is_trimmed x)

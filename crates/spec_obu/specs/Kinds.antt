@@ -1,38 +1,39 @@
 -- The types of OBUs (IAMF 1.0.0, "OBU Header Syntax and Semantics", `obu_type`).
-use Rattle.std.specs.Prelude.{ℕ, Bool, ◌&&◌, ◌||◌, nat_le}
+use Rattle.std.specs.Prelude.{ℕ, ◌==◌, nat_le, Bool, true, false, if◌then◌else◌}
+use Rattle.spec_obu.specs.declared.obu_type.ObuType.{ObuType}
+use Rattle.spec_obu.specs.declared.obu_type.ObuType.TheVariants.{SequenceHeader, CodecConfig, AudioElement, MixPresentation, ParameterBlock, TemporalDelimiter, AudioFrame, Reserved}
 
-abbrev pub codec_config : ℕ
-codec_config = 0
+-- The type that a number names. An audio frame of type 5 names its substream; those from 6 to 23 are of the substreams 0 to 17.
+abbrev pub obu_type_of : ℕ → ObuType
+obu_type_of number =
+    if number == 31 then SequenceHeader
+    else if number == 0 then CodecConfig
+    else if number == 1 then AudioElement
+    else if number == 2 then MixPresentation
+    else if number == 3 then ParameterBlock
+    else if number == 4 then TemporalDelimiter
+    else if nat_le number 23 then AudioFrame
+    else Reserved
 
-abbrev pub audio_element : ℕ
-audio_element = 1
+-- the types that come before all data, and of which there are redundant copies
+abbrev pub is_descriptor : ObuType → Bool
+is_descriptor SequenceHeader = true
+is_descriptor CodecConfig = true
+is_descriptor AudioElement = true
+is_descriptor MixPresentation = true
+is_descriptor _ = false
 
-abbrev pub mix_presentation : ℕ
-mix_presentation = 2
+-- the types that temporal units are made of
+abbrev pub is_data : ObuType → Bool
+is_data ParameterBlock = true
+is_data TemporalDelimiter = true
+is_data AudioFrame = true
+is_data _ = false
 
-abbrev pub parameter_block : ℕ
-parameter_block = 3
+abbrev pub is_audio_frame : ObuType → Bool
+is_audio_frame AudioFrame = true
+is_audio_frame _ = false
 
-abbrev pub temporal_delimiter : ℕ
-temporal_delimiter = 4
-
--- an audio frame that names its substream; the types from 6 to 23 are those of the substreams 0 to 17
-abbrev pub audio_frame : ℕ
-audio_frame = 5
-
-abbrev pub last_audio_frame : ℕ
-last_audio_frame = 23
-
--- the types from 24 to 30 are reserved
-abbrev pub first_reserved : ℕ
-first_reserved = 24
-
-abbrev pub sequence_header : ℕ
-sequence_header = 31
-
-abbrev pub is_audio_frame : ℕ → Bool
-is_audio_frame kind = nat_le audio_frame kind && nat_le kind last_audio_frame
-
--- a descriptor (a sequence header, a codec config, an audio element or a mix presentation) or a reserved type
-abbrev pub is_descriptor_or_reserved : ℕ → Bool
-is_descriptor_or_reserved kind = nat_le kind mix_presentation || nat_le first_reserved kind
+abbrev pub is_reserved : ObuType → Bool
+is_reserved Reserved = true
+is_reserved _ = false

@@ -6,14 +6,15 @@ use Rattle.spec_bits.specs.declared.FieldFault.TheVariants as field
 use Rattle.spec_bits.specs.ByteReading.{◌>>=◌, leb_at, bytes_at}
 use Rattle.spec_obu.specs.declared.HeaderFault.{HeaderFault}
 use Rattle.spec_obu.specs.declared.HeaderFault.TheVariants.{Leb, ObuSize, Flags, HeaderSize, Cut}
+use Rattle.spec_obu.specs.declared.trim.Trim.{Trim}
 use Rattle.spec_obu.specs.Header.{Head, kind_of, is_redundant, is_trimmed, is_extended, flags_allowed}
 
-unfoldable pub trim_at : Bool → List ℕ → Result (Option (ℕ × ℕ) × List ℕ) FieldFault
+unfoldable pub trim_at : Bool → List ℕ → Result (Option Trim × List ℕ) FieldFault
 trim_at false bytes = Ok (None, bytes)
 trim_at true bytes = do
   end ← leb_at bytes
   start ← leb_at end.1
-  Ok (Some (end.0, start.0), start.1)
+  Ok (Some (record { end = end.0; start = start.0 }), start.1)
 
 unfoldable pub extension_at : Bool → List ℕ → Result (Option (List ℕ) × List ℕ) FieldFault
 extension_at false bytes = Ok (None, bytes)

@@ -8,9 +8,13 @@ ghost use Rattle.spec_obu.specs.Laws.{HeaderIsRead, HeaderIsReadAgain, HeaderFai
 ghost use Rattle.spec_obu.specs.Laws.{CanonicalIsHeader, CanonicalIsShortest};
 ghost use Rattle.spec_obu.specs.Laws.{ListedIsNotRefused, EitherListedOrRefused, OneListing, OneRefusal};
 
+mod obu_type;
 mod plain;
+mod trim;
 
+pub use obu_type::ObuType;
 pub use plain::plain_fault;
+pub use trim::Trim;
 
 /// Why the header of an OBU cannot be read (IAMF 1.0.0, "OBU Header Syntax and Semantics").
 ///

@@ -7,7 +7,7 @@ ghost use Rattle.spec_obu.specs.Faults.{SizeIs, NumberFails, AfterTrims, TrimsFa
 ghost use Rattle.spec_obu.specs.Faults.{SizeFails, IsTooLong, FlagsFail, IsCut, BodyFails, IsFirstFault};
 ghost use Rattle.spec_obu.specs.Laws.{HasHeader};
 
-use crate::HeaderFault;
+use crate::{HeaderFault, ObuType};
 
 // In bytes, header and all.
 const MAX_OBU_LENGTH: u64 = 1 << 21;
@@ -64,10 +64,10 @@ fn is_too_long(after: &[u8]) -> bool
 fn has_wrong_flags(first: u8) -> bool
     ensures { IsTrue result ↔ FlagsFail first }
 {
-    let kind = first / 8;
+    let obu_type = ObuType::of_number(first / 8);
     let trimmed = first / 2 % 2 == 1;
     let redundant = first / 4 % 2 == 1;
-    trimmed && !(5..=23).contains(&kind) || redundant && (3..=23).contains(&kind)
+    trimmed && obu_type != ObuType::AudioFrame || redundant && obu_type.is_data()
 }
 
 // The bytes end before the size does, or before what it counts.

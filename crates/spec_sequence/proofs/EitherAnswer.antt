@@ -5,15 +5,15 @@ use Rattle.spec_bits.specs.Bits.{AreBytes}
 use Rattle.spec_obu.specs.Header.{Head, Header, first_byte}
 use Rattle.spec_obu.specs.Laws.{HasHeader}
 use Rattle.spec_obu.proofs.OneHeader as header
-use Rattle.spec_sequence.specs.declared.fault.Fault.{Fault}
-use Rattle.spec_sequence.specs.declared.fault.Fault.TheVariants as fault
-use Rattle.spec_sequence.specs.Value.{ObuValue, Spells}
-use Rattle.spec_sequence.specs.Role.{role}
-use Rattle.spec_sequence.specs.Rules.{fault_after, end_fault}
+use Rattle.spec_values.specs.declared.fault.Fault.{Fault}
+use Rattle.spec_values.specs.declared.fault.Fault.TheVariants as fault
+use Rattle.spec_values.specs.Value.{ObuValue, Spells}
+use Rattle.spec_sequence.specs.ValueRole.{role}
+use Rattle.spec_rules.specs.Rules.{fault_after, end_fault}
 use Rattle.spec_sequence.specs.Reading.{Entry, values_of, roles, context_after, early_fault, IsAdmissible, Early, OfPayload, Late, AdmittedAfter, FailsAt, AtEnd, OfHeader, OfObu}
 use Rattle.spec_sequence.specs.Laws.{EitherReadsOrRefused}
 use Rattle.spec_bits.proofs.ByteForms.{AreBytes-parts}
-use Rattle.spec_sequence.proofs.Payloads as payload
+use Rattle.spec_values.proofs.Payloads as payload
 
 -- after the past, the bytes are OBUs to the end of a sequence
 record ReadsOn (past : List Entry) (bytes : List ℕ) : Type 0 where

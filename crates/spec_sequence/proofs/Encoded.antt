@@ -5,21 +5,23 @@ use Rattle.std.specs.Str.{bytes_eq}
 use Rattle.std.specs.Cmp.Lexicographic.{bytes_decides}
 use Rattle.std.proofs.lemmas.Bool.{or_cases, or_left, or_right, cases_Bool, eq-eqb}
 use Rattle.std.proofs.lemmas.List.{map-append}
-use Rattle.spec_sequence.specs.declared.fault.Fault.TheVariants as fault
-use Rattle.spec_sequence.specs.Content.{Content, kind_of, PayloadOf, is_descriptor}
-use Rattle.spec_sequence.specs.Value.{ObuValue, Spells}
-use Rattle.spec_sequence.specs.Canonical.{canonical_payload, canonical_obu, encoded}
-use Rattle.spec_sequence.specs.Role.{Role, role}
-use Rattle.spec_sequence.specs.Descriptors.{frame_length, context_of}
-use Rattle.spec_sequence.specs.Rules.{fault_after, end_fault, fault_before}
-use Rattle.spec_sequence.specs.Reading.{Entry, values_of, roles, context_after, is_copy, is_copied, is_repeated, early_fault, IsAdmissible, AdmittedAfter}
+use Rattle.spec_values.specs.declared.fault.Fault.TheVariants as fault
+use Rattle.spec_obu.specs.Kinds.{obu_type_of, is_descriptor}
+use Rattle.spec_values.specs.Content.{Content, by_length, PayloadOf}
+use Rattle.spec_values.specs.Value.{ObuValue, Spells}
+use Rattle.spec_values.specs.Canonical.{canonical_payload, canonical_obu, encoded}
+use Rattle.spec_rules.specs.Role.{Role}
+use Rattle.spec_sequence.specs.ValueRole.{role}
+use Rattle.spec_rules.specs.Descriptors.{frame_length, context_of}
+use Rattle.spec_rules.specs.Rules.{fault_after, end_fault, fault_before}
+use Rattle.spec_obu.specs.Header.{is_copy}
+use Rattle.spec_sequence.specs.Reading.{Entry, values_of, roles, context_after, is_copied, is_repeated, early_fault, IsAdmissible, AdmittedAfter, IsKnown, Known, Keeps}
 use Rattle.spec_sequence.specs.Laws.{EncodedReads, EncodedSame}
-use Rattle.spec_sequence.proofs.Payloads.{one_content, payload_of}
-use Rattle.spec_sequence.proofs.Obus.{canonical_spells}
+use Rattle.spec_values.proofs.Payloads.{one_content, payload_of}
+use Rattle.spec_values.proofs.Obus.{canonical_spells}
 use Rattle.spec_sequence.proofs.OneAnswer.{one_reading}
-use Rattle.spec_sequence.proofs.FixedContext.{payload_now, IsKnown, Known, Keeps, keeps-nil, keeps-push}
-use Rattle.spec_sequence.proofs.Contents.{by_length}
-use Rattle.spec_sequence.proofs.NoFault.{is_there}
+use Rattle.spec_sequence.proofs.FixedContext.{payload_now, keeps-nil, keeps-push}
+use Rattle.spec_rules.proofs.NoFault.{is_there}
 use Rattle.spec_sequence.proofs.RedundantCopies.{copy_kind, copied_parts, early_copy, early_plain}
 
 -- the same OBU with its canonical payload
@@ -39,12 +41,12 @@ values-rewritten (e ∷ es) = ap (λ (l : List ObuValue). e.value ∷ l) (values
 
 -- ---- a redundant copy repeats the same OBU
 
-copied_again : (n : ℕ) (o : ObuValue) (payload : List ℕ) (e : Entry) → IsKnown n e → is_descriptor (kind_of o.head.kind) ≡ true → PayloadOf (by_length n) o.head.kind o.content o.tail payload
+copied_again : (n : ℕ) (o : ObuValue) (payload : List ℕ) (e : Entry) → IsKnown n e → is_descriptor (obu_type_of o.head.kind) ≡ true → PayloadOf (by_length n) o.head.kind o.content o.tail payload
     → is_copied o.head payload e ≡ true → is_copied o.head (canonical_payload o) (rewritten e) ≡ true
 copied_again n o payload e known descriptor h same =
     let parts = copied_parts o.head payload e same in
     let kinds : e.value.head.kind ≡ o.head.kind = parts.1 in
-    let old = known parts.0 (subst (λ (k : ℕ). is_descriptor (kind_of k) ≡ true) (sym kinds) descriptor) in
+    let old = known parts.0 (subst (λ (k : ℕ). is_descriptor (obu_type_of k) ≡ true) (sym kinds) descriptor) in
     let was : PayloadOf (by_length n) o.head.kind e.value.content e.value.tail payload =
     subst (λ (k : ℕ). PayloadOf (by_length n) k e.value.content e.value.tail payload) kinds (subst (λ (p : List ℕ). PayloadOf (by_length n) e.value.head.kind e.value.content e.value.tail p) parts.2 old) in
     let one = one_content (by_length n) o.head.kind payload e.value.tail o.tail e.value.content o.content was h in
@@ -53,7 +55,7 @@ copied_again n o payload e known descriptor h same =
     let equal : bytes_eq (canonical_payload e.value) (canonical_payload o) ≡ true = (bytes_decides (canonical_payload e.value) (canonical_payload o)).1 written in
     rw (parts.0, eq-eqb e.value.head.kind o.head.kind kinds, equal) refl
 
-repeated_again : (n : ℕ) (o : ObuValue) (payload : List ℕ) (past : List Entry) → Known n past → is_descriptor (kind_of o.head.kind) ≡ true → PayloadOf (by_length n) o.head.kind o.content o.tail payload
+repeated_again : (n : ℕ) (o : ObuValue) (payload : List ℕ) (past : List Entry) → Known n past → is_descriptor (obu_type_of o.head.kind) ≡ true → PayloadOf (by_length n) o.head.kind o.content o.tail payload
     → is_repeated past o.head payload ≡ true → is_repeated (all_rewritten past) o.head (canonical_payload o) ≡ true
 repeated_again n o payload [] known descriptor h e = e
 repeated_again n o payload (x ∷ xs) known descriptor h e = elim (or_cases (is_copied o.head payload x) (is_repeated xs o.head payload) e) [
@@ -67,12 +69,12 @@ early_again : (past : List Entry) (o : ObuValue) (payload piece : List ℕ) → 
     → early_fault past o.head payload ≡ None → early_fault (all_rewritten past) o.head (canonical_payload o) ≡ None
 early_again past o payload piece k s none = elim (cases_Bool (is_copy o.head)) [
   | inl copy ↦
-      let descriptor = copy_kind o.head s.header.kind_is s.header.allowed copy in
+      let descriptor = copy_kind o.head s.header.allowed copy in
       let there = is_there (is_repeated past o.head payload) fault.Redundant (sym (early_copy past o.head payload copy) ∙ none) in
       let now = payload_now past o.head.kind o.content o.tail payload descriptor s.payload_is in
       early_copy (all_rewritten past) o.head (canonical_payload o) copy ∙ rw (repeated_again (frame_length (roles past)) o payload past k.known descriptor now there) refl
   | inr plain ↦
-      early_plain (all_rewritten past) o.head (canonical_payload o) plain ∙ ap (λ (l : List Role). fault_before l (kind_of o.head.kind)) (roles-rewritten past) ∙ sym (early_plain past o.head payload plain) ∙ none
+      early_plain (all_rewritten past) o.head (canonical_payload o) plain ∙ ap (λ (l : List Role). fault_before l (obu_type_of o.head.kind)) (roles-rewritten past) ∙ sym (early_plain past o.head payload plain) ∙ none
 ]
 
 -- ---- the whole list

@@ -3,51 +3,31 @@ use Rattle.std.proofs.Common.{◌≡◌, ℕ, true, false, ◌⊎◌, inl, inr, 
 use Rattle.std.specs.Prelude.{None}
 use Rattle.spec_obu.specs.Header.{Head}
 use Rattle.spec_descriptors.specs.AudioElement.{AudioElementFields}
-use Rattle.spec_sequence.specs.Content.{AudioElement, kind_of, Content, Element, PayloadOf}
-use Rattle.spec_sequence.specs.Content.{is_descriptor}
-use Rattle.spec_sequence.specs.Role.{CodecRole, Role, element_role, role, role_in}
-use Rattle.spec_sequence.specs.Role as role
-use Rattle.spec_sequence.specs.Descriptors.{codec_of, codecs, first_length, frame_length, context_of}
-use Rattle.spec_sequence.specs.Rules.{fault_after, unknown}
-use Rattle.spec_sequence.specs.Reading.{Entry, roles, context_after, IsAdmissible}
+use Rattle.spec_obu.specs.declared.obu_type.ObuType.TheVariants.{AudioElement}
+use Rattle.spec_obu.specs.Kinds.{obu_type_of}
+use Rattle.spec_values.specs.Content.{Content, Element, by_length, PayloadOf}
+use Rattle.spec_obu.specs.Kinds.{is_descriptor}
+use Rattle.spec_rules.specs.declared.codec_role.CodecRole.{CodecRole}
+use Rattle.spec_rules.specs.Role.{Role}
+use Rattle.spec_sequence.specs.ValueRole.{element_role, role, role_in}
+use Rattle.spec_rules.specs.Role as role
+use Rattle.spec_rules.specs.Descriptors.{codec_of, codecs, first_length, frame_length, context_of}
+use Rattle.spec_rules.specs.Rules.{fault_after, unknown}
+use Rattle.spec_sequence.specs.Reading.{Entry, roles, context_after, IsAdmissible, IsPlain, IsKnown, Known, IsNoElement, LacksElements, Keeps}
 use Rattle.spec_sequence.proofs.Roles.{roles-append, roles_more}
-use Rattle.spec_sequence.proofs.DescriptorLists.{codecs-append, codecs-push}
-use Rattle.spec_sequence.proofs.Contents.{by_length, descriptor_elsewhere, element_content}
-use Rattle.spec_sequence.proofs.NoFault.{element_none}
+use Rattle.spec_rules.proofs.DescriptorLists.{codecs-append, codecs-push}
+use Rattle.spec_values.proofs.Contents.{descriptor_elsewhere, element_content}
+use Rattle.spec_rules.proofs.NoFault.{element_none}
 
 -- what an OBU's payload says where it stands, by the frame length there
-pub payload_now : (past : List Entry) (obu_type : ℕ) (c : Content) (tail payload : List ℕ) → is_descriptor (kind_of obu_type) ≡ true → PayloadOf (context_after past) obu_type c tail payload
+pub payload_now : (past : List Entry) (obu_type : ℕ) (c : Content) (tail payload : List ℕ) → is_descriptor (obu_type_of obu_type) ≡ true → PayloadOf (context_after past) obu_type c tail payload
     → PayloadOf (by_length (frame_length (roles past))) obu_type c tail payload
 unfolding context_of
 payload_now past obu_type c tail payload e h = record {
-  says = descriptor_elsewhere (context_of (roles past)) (by_length (frame_length (roles past))) obu_type (kind_of obu_type) c tail payload e (λ _. refl) h.says;
+  says = descriptor_elsewhere (context_of (roles past)) (by_length (frame_length (roles past))) obu_type (obu_type_of obu_type) c tail payload e (λ _. refl) h.says;
   bytes = h.bytes;
   tail_is = h.tail_is;
 }
-
--- ---- what is kept of the past
-
-abbrev IsPlain : Entry → Type 0
-IsPlain e = e.value.head.redundant ≡ false
-
--- the payload of a plain descriptor says its value where frames have so many samples
-abbrev pub IsKnown : ℕ → Entry → Type 0
-IsKnown n e = IsPlain e → is_descriptor (kind_of e.value.head.kind) ≡ true → PayloadOf (by_length n) e.value.head.kind e.value.content e.value.tail e.payload
-
-abbrev pub Known : ℕ → List Entry → Type 0
-Known n [] = Unit {0}
-Known n (e ∷ es) = IsKnown n e × Known n es
-
-abbrev IsNoElement : Entry → Type 0
-IsNoElement e = IsPlain e → kind_of e.value.head.kind ≡ AudioElement → ⊥
-
-abbrev pub LacksElements : List Entry → Type 0
-LacksElements [] = Unit {0}
-LacksElements (e ∷ es) = IsNoElement e × LacksElements es
-
-pub record Keeps (past : List Entry) : Type 0 where
-  pub known : Known (frame_length (roles past)) past
-  pub first : codecs (roles past) ≡ [] → LacksElements past
 
 known_other : (n m : ℕ) (past : List Entry) → LacksElements past → Known n past → Known m past
 known_other n m [] lacks h = tt
@@ -55,7 +35,7 @@ known_other n m (e ∷ es) lacks h = (
   λ plain descriptor.
       let p = h.0 plain descriptor in
       record {
-        says = descriptor_elsewhere (by_length n) (by_length m) e.value.head.kind (kind_of e.value.head.kind) e.value.content e.value.tail e.payload descriptor (λ element. absurd (lacks.0 plain element)) p.says;
+        says = descriptor_elsewhere (by_length n) (by_length m) e.value.head.kind (obu_type_of e.value.head.kind) e.value.content e.value.tail e.payload descriptor (λ element. absurd (lacks.0 plain element)) p.says;
         bytes = p.bytes;
         tail_is = p.tail_is;
       },
@@ -100,10 +80,10 @@ unknown_codec (c ∷ cs) id none h = cc
 role_of_element : (h : Head) (c : Content) (tail : List ℕ) (x : AudioElementFields) → h.redundant ≡ false → c ≡ Element x → role_in h c tail ≡ role.AudioElement (element_role x)
 role_of_element h c tail x plain is = rw (plain, is) refl
 
-plain_element : (past : List Entry) (e : Entry) → IsPlain e → kind_of e.value.head.kind ≡ AudioElement → PayloadOf (context_after past) e.value.head.kind e.value.content e.value.tail e.payload → IsAdmissible past e
+plain_element : (past : List Entry) (e : Entry) → IsPlain e → obu_type_of e.value.head.kind ≡ AudioElement → PayloadOf (context_after past) e.value.head.kind e.value.content e.value.tail e.payload → IsAdmissible past e
     → codecs (roles past) ≡ [] → ⊥
 plain_element past e plain is h a none =
-    let c = element_content (context_after past) e.value.head.kind (kind_of e.value.head.kind) e.value.content e.value.tail e.payload is h.says in
+    let c = element_content (context_after past) e.value.head.kind (obu_type_of e.value.head.kind) e.value.content e.value.tail e.payload is h.says in
     let r : role e.value ≡ role.AudioElement (element_role c.0) = role_of_element e.value.head e.value.content e.value.tail c.0 plain c.1 in
     unknown_codec (codecs (roles past)) (element_role c.0).codec none (element_none (roles past) (element_role c.0) (sym (ap (fault_after (roles past)) r) ∙ a.late)).2
 

@@ -1,12 +1,12 @@
 -- Bytes are not both read and refused; they are read as one sequence, and refused at one place for one fault.
 use Rattle.std.proofs.Common.{◌≡◌, ℕ, List, [], ◌∷◌, ◌++◌, length, refl, sym, ap, subst, ◌∙◌, arith, append_assoc, append-nil, length-append}
 use Rattle.std.specs.Prelude.{None}
-use Rattle.spec_sequence.specs.declared.fault.Fault.{Fault}
-use Rattle.spec_sequence.specs.Value.{ObuValue}
-use Rattle.spec_sequence.specs.Rules.{end_fault}
+use Rattle.spec_values.specs.declared.fault.Fault.{Fault}
+use Rattle.spec_values.specs.Value.{ObuValue}
+use Rattle.spec_rules.specs.Rules.{end_fault}
 use Rattle.spec_sequence.specs.Reading.{Entry, values_of, roles, context_after, AdmittedAfter, FailsAt, AtEnd, OfHeader, OfObu}
-use Rattle.spec_sequence.specs.Laws.{ReadsIsNotRefused, OneReading, OneRefusal}
-use Rattle.spec_sequence.proofs.Obus.{same_first, not_empty}
+use Rattle.spec_sequence.specs.Laws.{ReadsIsNotRefused, OneEntries, OneReading, OneRefusal}
+use Rattle.spec_values.proofs.Obus.{same_first, not_empty}
 use Rattle.spec_sequence.proofs.OneFault.{apart, no_fault_at, one_fault_at}
 
 abbrev entry : ObuValue → List ℕ → Entry
@@ -68,6 +68,9 @@ one_list past bytes (o ∷ os) (q ∷ qs) h g =
     subst (λ (e : Entry). AdmittedAfter (past ++ e ∷ []) h.1 qs) (sym first) (subst (λ (b : List ℕ). AdmittedAfter (past ++ q ∷ []) b qs) (sym f.rests) g.5) in
     let others : os ≡ qs = one_list (past ++ o ∷ []) h.1 os qs h.5 moved in
     ap (λ (e : Entry). e ∷ os) first ∙ ap (λ (es : List Entry). q ∷ es) others
+
+pub one_entries : OneEntries
+one_entries bytes s t h g = one_list [] bytes s t h g
 
 pub one_reading : OneReading
 one_reading bytes s t h g = sym h.values_are ∙ ap values_of (one_list [] bytes h.entries g.entries h.admitted g.admitted) ∙ g.values_are

@@ -6,15 +6,15 @@ use Rattle.spec_obu.specs.declared.HeaderFault.{HeaderFault}
 use Rattle.spec_obu.specs.Header.{Head}
 use Rattle.spec_obu.proofs.FaultLaws.{one_first}
 use Rattle.spec_obu.proofs.OneHeader.{same_front, no_header}
-use Rattle.spec_sequence.specs.declared.fault.Fault.{Fault}
-use Rattle.spec_sequence.specs.declared.fault.Fault.TheVariants as fault
-use Rattle.spec_sequence.specs.Content.{Content, PayloadOf}
-use Rattle.spec_sequence.specs.Value.{Spells}
-use Rattle.spec_sequence.specs.Role.{role}
-use Rattle.spec_sequence.specs.Rules.{fault_after, end_fault}
+use Rattle.spec_values.specs.declared.fault.Fault.{Fault}
+use Rattle.spec_values.specs.declared.fault.Fault.TheVariants as fault
+use Rattle.spec_values.specs.Content.{Content, PayloadOf}
+use Rattle.spec_values.specs.Value.{Spells}
+use Rattle.spec_sequence.specs.ValueRole.{role}
+use Rattle.spec_rules.specs.Rules.{fault_after, end_fault}
 use Rattle.spec_sequence.specs.Reading.{Entry, roles, context_after, early_fault, IsAdmissible, HasFault, Early, OfPayload, Late, FailsAt, AtEnd, OfHeader, OfObu}
-use Rattle.spec_sequence.proofs.Payloads.{one_content, one_fault, not_both}
-use Rattle.spec_sequence.proofs.Obus.{made, not_empty}
+use Rattle.spec_values.proofs.Payloads.{one_content, one_fault, not_both}
+use Rattle.spec_values.proofs.Obus.{made, not_empty}
 
 pub apart : (o : Option Fault) (f : Fault) → o ≡ None → o ≡ Some f → ⊥
 apart None f e g = cc

@@ -1,9 +1,11 @@
 -- The roles of OBUs that stand one after the other.
-use Rattle.std.proofs.Common.{◌≡◌, ℕ, Bool, true, false, eqb, List, [], ◌∷◌, ◌++◌, refl, ap}
-use Rattle.std.specs.Prelude.{if◌then◌else◌}
+use Rattle.std.proofs.Common.{◌≡◌, true, List, [], ◌∷◌, ◌++◌, refl, ap}
 use Rattle.std.proofs.lemmas.List.{map-append}
-use Rattle.spec_sequence.specs.Value.{ObuValue}
-use Rattle.spec_sequence.specs.Role.{Role, Ignored, Delimiter, role_of_nothing, role}
+use Rattle.spec_obu.specs.declared.obu_type.ObuType.{ObuType}
+use Rattle.spec_obu.specs.declared.obu_type.ObuType.TheVariants.{TemporalDelimiter}
+use Rattle.spec_values.specs.Value.{ObuValue}
+use Rattle.spec_rules.specs.Role.{Role, Ignored, Delimiter}
+use Rattle.spec_sequence.specs.ValueRole.{role_of_nothing, role}
 use Rattle.spec_sequence.specs.Parts.{roles_of}
 use Rattle.spec_sequence.specs.Reading.{Entry, values_of, roles}
 
@@ -29,8 +31,6 @@ pub redundant_role : (o : ObuValue) → o.head.redundant ≡ true → role o ≡
 redundant_role o redundant = rw redundant refl
 
 -- an OBU of nothing is a delimiter, or it counts for nothing
-pub nothing_of : {X : Type 0} (part : Role → List X) → part Ignored ≡ [] → part Delimiter ≡ [] → (obu_type : ℕ) → part (role_of_nothing obu_type) ≡ []
-nothing_of part ignored delimiter obu_type = one (eqb obu_type 4) where
-  one : (b : Bool) → part (if b then Delimiter else Ignored) ≡ []
-  one true = delimiter
-  one false = ignored
+pub nothing_of : {X : Type 0} (part : Role → List X) → part Ignored ≡ [] → part Delimiter ≡ [] → (t : ObuType) → part (role_of_nothing t) ≡ []
+nothing_of part ignored delimiter TemporalDelimiter = delimiter
+nothing_of part ignored delimiter _ = ignored

@@ -2,11 +2,13 @@
 use Rattle.std.proofs.Common.{◌≡◌, ℕ, Bool, true, false, cond, List, [], ◌∷◌, ◌++◌, map, refl, sym, ap, ◌∙◌}
 use Rattle.std.specs.List.{flat_map}
 use Rattle.std.proofs.lemmas.List.{map-append}
+use Rattle.spec_obu.specs.Kinds.{obu_type_of}
 use Rattle.spec_obu.specs.Header.{Head}
-use Rattle.spec_sequence.specs.Content.{Content, Header, Codec, Element, Mix, Block, Frame, Nothing}
-use Rattle.spec_sequence.specs.Value.{ObuValue}
-use Rattle.spec_sequence.specs.Role.{Role, Ignored, role_of_codec, plain_role, element_role, mix_role}
-use Rattle.spec_sequence.specs.Descriptors.{profile_of, profiles, codec_of, codecs, element_of, elements, mix_of, mixes}
+use Rattle.spec_values.specs.Content.{Content, Nothing}
+use Rattle.spec_values.specs.Value.{ObuValue}
+use Rattle.spec_rules.specs.Role.{Role, Ignored}
+use Rattle.spec_sequence.specs.ValueRole.{role_of_codec, plain_role, element_role, mix_role}
+use Rattle.spec_rules.specs.Descriptors.{profile_of, profiles, codec_of, codecs, element_of, elements, mix_of, mixes}
 use Rattle.spec_sequence.specs.Parts.{roles_of, of_plain, header_in, codec_in, element_in, mix_in, sequence_headers, codec_configs, audio_elements, mix_presentations}
 use Rattle.spec_sequence.proofs.Roles.{nothing_of}
 
@@ -25,46 +27,26 @@ pub profiles_are : (s : List ObuValue) → profiles (roles_of s) ≡ map (λ h. 
 unfolding profiles sequence_headers
 profiles_are s = flat profile_of header_in (λ h. h.primary_profile) refl plain s where
   plain : (h : Head) (c : Content) (tail : List ℕ) → profile_of (plain_role h c tail) ≡ map (λ h. h.primary_profile) (header_in c)
-  plain h (Header x) tail = refl
-  plain h (Codec x) tail = refl
-  plain h (Element x) tail = refl
-  plain h (Mix x) tail = refl
-  plain h (Block x) tail = refl
-  plain h (Frame x) tail = refl
-  plain h Nothing tail = nothing_of profile_of refl refl h.kind
+  plain h Nothing tail = nothing_of profile_of refl refl (obu_type_of h.kind)
+  plain h _ tail = refl
 
 pub codecs_are : (s : List ObuValue) → codecs (roles_of s) ≡ map role_of_codec (codec_configs s)
 unfolding codecs codec_configs
 codecs_are s = flat codec_of codec_in role_of_codec refl plain s where
   plain : (h : Head) (c : Content) (tail : List ℕ) → codec_of (plain_role h c tail) ≡ map role_of_codec (codec_in c)
-  plain h (Header x) tail = refl
-  plain h (Codec x) tail = refl
-  plain h (Element x) tail = refl
-  plain h (Mix x) tail = refl
-  plain h (Block x) tail = refl
-  plain h (Frame x) tail = refl
-  plain h Nothing tail = nothing_of codec_of refl refl h.kind
+  plain h Nothing tail = nothing_of codec_of refl refl (obu_type_of h.kind)
+  plain h _ tail = refl
 
 pub elements_are : (s : List ObuValue) → elements (roles_of s) ≡ map element_role (audio_elements s)
 unfolding elements audio_elements
 elements_are s = flat element_of element_in element_role refl plain s where
   plain : (h : Head) (c : Content) (tail : List ℕ) → element_of (plain_role h c tail) ≡ map element_role (element_in c)
-  plain h (Header x) tail = refl
-  plain h (Codec x) tail = refl
-  plain h (Element x) tail = refl
-  plain h (Mix x) tail = refl
-  plain h (Block x) tail = refl
-  plain h (Frame x) tail = refl
-  plain h Nothing tail = nothing_of element_of refl refl h.kind
+  plain h Nothing tail = nothing_of element_of refl refl (obu_type_of h.kind)
+  plain h _ tail = refl
 
 pub mixes_are : (s : List ObuValue) → mixes (roles_of s) ≡ map mix_role (mix_presentations s)
 unfolding mixes mix_presentations
 mixes_are s = flat mix_of mix_in mix_role refl plain s where
   plain : (h : Head) (c : Content) (tail : List ℕ) → mix_of (plain_role h c tail) ≡ map mix_role (mix_in c)
-  plain h (Header x) tail = refl
-  plain h (Codec x) tail = refl
-  plain h (Element x) tail = refl
-  plain h (Mix x) tail = refl
-  plain h (Block x) tail = refl
-  plain h (Frame x) tail = refl
-  plain h Nothing tail = nothing_of mix_of refl refl h.kind
+  plain h Nothing tail = nothing_of mix_of refl refl (obu_type_of h.kind)
+  plain h _ tail = refl

@@ -1,13 +1,5 @@
-pub mod Code
-pub mod Content
-pub mod Value
-pub mod Role
-pub mod Descriptors
-pub mod Profile
-pub mod Units
-pub mod Rules
+pub mod ValueRole
 pub mod Reading
-pub mod Canonical
 pub mod Parts
-pub mod Report
+pub mod Narrow
 pub mod Laws

@@ -8,10 +8,12 @@ use Rattle.spec_descriptors.specs.CodecConfig.{CodecConfigFields}
 use Rattle.spec_descriptors.specs.AudioElement.{AudioElementFields}
 use Rattle.spec_descriptors.specs.MixPresentation.{MixPresentationFields}
 use Rattle.spec_blocks.specs.ParameterBlock.{BlockFields}
-use Rattle.spec_sequence.specs.Content.{Content, Header, Codec, Element, Mix, Block, Frame}
-use Rattle.spec_sequence.specs.Value.{ObuValue}
-use Rattle.spec_sequence.specs.Role.{Trim, trim_of, Role, role}
-use Rattle.spec_sequence.specs.Units.{is_data, unit_after, unit_count}
+use Rattle.spec_values.specs.Content.{Content, Header, Codec, Element, Mix, Block, Frame}
+use Rattle.spec_values.specs.Value.{ObuValue}
+use Rattle.spec_obu.specs.declared.trim.Trim.{Trim}
+use Rattle.spec_rules.specs.Role.{Role}
+use Rattle.spec_sequence.specs.ValueRole.{trim_of, role}
+use Rattle.spec_rules.specs.Units.{is_data, unit_after, unit_count}
 
 abbrev pub roles_of : List ObuValue → List Role
 roles_of s = map role s
@@ -49,6 +51,21 @@ audio_elements s = flat_map (of_plain element_in) s
 
 unfoldable pub mix_presentations : List ObuValue → List MixPresentationFields
 mix_presentations s = flat_map (of_plain mix_in) s
+
+-- a mix presentation with its tail, which may hold tags
+pub record MixValue : Type 0 where
+  pub fields : MixPresentationFields
+  pub tail : List ℕ
+
+abbrev pub mix_with : Content → List ℕ → List MixValue
+mix_with (Mix m) tail = record { fields = m; tail = tail } ∷ []
+mix_with _ tail = []
+
+abbrev pub mix_of : ObuValue → List MixValue
+mix_of o = if o.head.redundant then [] else mix_with o.content o.tail
+
+unfoldable pub mix_values : List ObuValue → List MixValue
+mix_values s = flat_map mix_of s
 
 -- ---- temporal units
 

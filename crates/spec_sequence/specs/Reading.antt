@@ -1,17 +1,20 @@
 -- Which OBUs are admitted after others, which bytes are a sequence, and where and why the others are refused.
-use Rattle.std.specs.Prelude.{◌≡◌, ℕ, ◌==◌, nat_le, Bool, not, ◌&&◌, if◌then◌else◌, List, [], ◌∷◌, ◌++◌, length, map, Option, Some, None}
+use Rattle.std.specs.Prelude.{◌≡◌, ℕ, ◌==◌, Bool, true, false, not, ◌&&◌, if◌then◌else◌, List, [], ◌∷◌, ◌++◌, length, map, Option, Some, None}
 use Rattle.std.specs.List.{list_any}
 use Rattle.std.specs.Str.{bytes_eq}
 use Rattle.spec_obu.specs.declared.HeaderFault.{HeaderFault}
-use Rattle.spec_obu.specs.Header.{Head, Header}
+use Rattle.spec_obu.specs.declared.obu_type.ObuType.TheVariants.{AudioElement}
+use Rattle.spec_obu.specs.Header.{Head, Header, is_copy}
 use Rattle.spec_obu.specs.Faults as header
-use Rattle.spec_sequence.specs.declared.fault.Fault.{Fault}
-use Rattle.spec_sequence.specs.declared.fault.Fault.TheVariants as fault
-use Rattle.spec_sequence.specs.Content.{Content, Context, kind_of, PayloadOf, PayloadFault}
-use Rattle.spec_sequence.specs.Value.{ObuValue, Spells}
-use Rattle.spec_sequence.specs.Role.{Role, role}
-use Rattle.spec_sequence.specs.Descriptors.{context_of}
-use Rattle.spec_sequence.specs.Rules.{when, fault_before, fault_after, end_fault}
+use Rattle.spec_values.specs.declared.fault.Fault.{Fault}
+use Rattle.spec_values.specs.declared.fault.Fault.TheVariants as fault
+use Rattle.spec_obu.specs.Kinds.{obu_type_of, is_descriptor}
+use Rattle.spec_values.specs.Content.{Content, Context, by_length, PayloadOf, PayloadFault}
+use Rattle.spec_values.specs.Value.{ObuValue, Spells}
+use Rattle.spec_rules.specs.Role.{Role}
+use Rattle.spec_sequence.specs.ValueRole.{role}
+use Rattle.spec_rules.specs.Descriptors.{codecs, frame_length, context_of}
+use Rattle.spec_rules.specs.Rules.{when, fault_before, fault_after, end_fault}
 
 -- An OBU of the input: its value, and the payload that spelled it. Redundant copies alone look at payloads.
 pub record Entry : Type 0 where
@@ -29,13 +32,6 @@ context_after past = context_of (roles past)
 
 -- ---- redundant copies (IAMF 1.0.0, "obu_redundant_copy")
 
--- types 24 to 30
-abbrev pub is_reserved : ℕ → Bool
-is_reserved obu_type = nat_le 24 obu_type && nat_le obu_type 30
-
-abbrev pub is_copy : Head → Bool
-is_copy h = h.redundant && not (is_reserved h.kind)
-
 -- a plain OBU of the type with exactly this payload
 abbrev pub is_copied : Head → List ℕ → Entry → Bool
 is_copied h payload e = not e.value.head.redundant && (e.value.head.kind == h.kind && bytes_eq e.payload payload)
@@ -48,7 +44,7 @@ is_repeated past h payload = list_any (is_copied h payload) past
 -- the fault that is tested before the payload is read
 unfoldable pub early_fault : List Entry → Head → List ℕ → Option Fault
 early_fault past h payload =
-    if is_copy h then when (not (is_repeated past h payload)) fault.Redundant else fault_before (roles past) (kind_of h.kind)
+    if is_copy h then when (not (is_repeated past h payload)) fault.Redundant else fault_before (roles past) (obu_type_of h.kind)
 
 -- the OBU with this value and this payload has no fault
 pub record IsAdmissible (past : List Entry) (e : Entry) : Type 0 where
@@ -97,3 +93,29 @@ pub record Refuses (bytes : List ℕ) (at : ℕ) (f : Fault) : Type 0 where
   pub place : at ≡ length good
   pub admitted : Admitted good entries
   pub fails : FailsAt entries rest f
+
+-- ---- what the payloads of descriptors are read by: the frame length, which stays as it is once there is a codec config
+
+abbrev pub IsPlain : Entry → Type 0
+IsPlain e = e.value.head.redundant ≡ false
+
+-- the payload of a plain descriptor says its value where frames have so many samples
+abbrev pub IsKnown : ℕ → Entry → Type 0
+IsKnown n e = IsPlain e → is_descriptor (obu_type_of e.value.head.kind) ≡ true → PayloadOf (by_length n) e.value.head.kind e.value.content e.value.tail e.payload
+
+abbrev pub Known : ℕ → List Entry → Type 0
+Known n [] = Unit {0}
+Known n (e ∷ es) = IsKnown n e × Known n es
+
+abbrev pub IsNoElement : Entry → Type 0
+IsNoElement e = IsPlain e → obu_type_of e.value.head.kind ≡ AudioElement → ⊥
+
+abbrev pub LacksElements : List Entry → Type 0
+LacksElements [] = Unit {0}
+LacksElements (e ∷ es) = IsNoElement e × LacksElements es
+
+-- By the frame length after all of them each plain descriptor says what it did where it stood, and before a codec config
+-- there is no element, which alone is read by it.
+pub record Keeps (past : List Entry) : Type 0 where
+  pub known : Known (frame_length (roles past)) past
+  pub first : codecs (roles past) ≡ [] → LacksElements past

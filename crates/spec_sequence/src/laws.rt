@@ -1,31 +1,12 @@
 //! Laws of the definitions. Each function is empty: its clauses are the laws.
 
-ghost use Rattle.std.specs.Prelude.{ℕ};
-ghost use Rattle.spec_sequence.specs.Content.{Context};
-ghost use Rattle.spec_sequence.specs.Laws.{IsExactPayload, OneValue, NoPrefix, CanonicalSpells, NeverLonger, EitherReadsOrRefused, ReadsIsNotRefused, OneReading, OneRefusal, EncodedReads, EncodedSame};
-
-/// Of any bytes exactly one holds, for an OBU of each type: they are its payload, with one content and one tail, or they
-/// have one first fault.
-pub fn one_payload()
-    ensures { (context : Context) → (obu_type : ℕ) → IsExactPayload context obu_type }
-{}
-
-/// The spelling of an OBU determines its value, and no spelling is a proper prefix of another.
-pub fn one_value()
-    ensures value { OneValue }
-    ensures prefix { NoPrefix }
-{}
-
-/// An OBU that has a spelling has one canonical spelling, and no other is shorter.
-pub fn one_canonical()
-    ensures spells { CanonicalSpells }
-    ensures shortest { NeverLonger }
-{}
+ghost use Rattle.spec_sequence.specs.Laws.{EitherReadsOrRefused, ReadsIsNotRefused, OneEntries, OneReading, OneRefusal, EncodedReads, EncodedSame, NarrowSame};
 
 /// Of any bytes exactly one holds: they read as one sequence, or they are refused at one place for one fault.
 pub fn one_answer()
     ensures either { EitherReadsOrRefused }
     ensures not_both { ReadsIsNotRefused }
+    ensures entries { OneEntries }
     ensures reading { OneReading }
     ensures refusal { OneRefusal }
 {}
@@ -34,4 +15,10 @@ pub fn one_answer()
 pub fn encoded_law()
     ensures reads { EncodedReads }
     ensures same { EncodedSame }
+{}
+
+/// Bytes are a sequence of the Simple or the Base profile exactly where they are one by the rules without the wide
+/// profile, with the same values.
+pub fn narrow_law()
+    ensures { NarrowSame }
 {}

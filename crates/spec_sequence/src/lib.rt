@@ -1,9 +1,7 @@
-//! IAMF sequences: what an OBU says, how OBUs fall into temporal units, which sequences a profile admits, and what is
-//! wrong with bytes that are none.
+//! IAMF sequences: which OBUs are admitted after others, which bytes are a sequence, what it is made of, and where and why
+//! other bytes are refused.
 #![tactic(auto)]
 
-mod fault;
 mod laws;
 
-pub use fault::Fault;
-pub use laws::{encoded_law, one_answer, one_canonical, one_payload, one_value};
+pub use laws::{encoded_law, narrow_law, one_answer};

@@ -77,7 +77,7 @@ impl<'a> Case<'a> {
     }
 
     /// How it ends. Reads and writes are of at least one byte.
-    fn came(&self, alloc: Global) -> Result<Ended, AllocError> {
+    pub fn came(&self, alloc: Global) -> Result<Ended, AllocError> {
         let mut words = Vec::new(alloc);
         for word in self.words {
             words.push(String::from_str(alloc, word)?)?;

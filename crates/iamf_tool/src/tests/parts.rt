@@ -49,3 +49,11 @@ pub const MONO: &[u8] = b"abcdefghijklmnop";
 
 /// A block of gain 100 that lasts a frame: from 0 to -6 dB.
 pub const BLOCK: &[u8] = b"\x18\x08\x64\x08\x08\x01\x00\x00\xfa\x00";
+
+/// A frame of FLAC of substream 0: 8 samples of 4660 on the left and of -292 on the right.
+pub const FLAC_FRAME: &[u8] =
+    b"\x30\x0f\xff\xf8\x6a\x18\x00\x07\x90\x00\x12\x34\x00\xfe\xdc\x00\x6b";
+
+/// The same with another last byte.
+pub const OTHER_FLAC_FRAME: &[u8] =
+    b"\x30\x0f\xff\xf8\x6a\x18\x00\x07\x90\x00\x12\x34\x00\xfe\xdc\x00\x6a";

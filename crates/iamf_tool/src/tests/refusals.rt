@@ -1,8 +1,8 @@
 //! What `check` refuses, and which of several faults it names.
 use super::case::Case;
 use super::parts::{
-    BLOCK, CODEC, DELIMITER, DESCRIPTORS, ELEMENT, FLAC, HEAD, HEADER, MIX, MIX_OF_BOTH, OPUS,
-    SAMPLES, SECOND_ELEMENT,
+    BLOCK, CODEC, DELIMITER, DESCRIPTORS, ELEMENT, FLAC, FLAC_FRAME, HEAD, HEADER, MIX,
+    MIX_OF_BOTH, OPUS, OTHER_FLAC_FRAME, SAMPLES, SECOND_ELEMENT,
 };
 use std::test::Fail;
 
@@ -17,6 +17,8 @@ const HEADERS_AND_PAYLOADS: &[Refused] = &[
     ),
     (&[b"\xf8\x80\x80\x80\x80\x10"], b"refused 0 1\n"),
     (&[b"\xf8\xff\xff\xff\xff\x0f"], b"refused 0 2\n"),
+    // A profile above the wide one.
+    (&[b"\xf8\x06iamf\x03\x00"], b"refused 0 12\n"),
     // The id of the codec config is 2^32.
     (
         &[
@@ -239,9 +241,14 @@ const OF_UNITS: &[Refused] = &[
     ),
     (&[DESCRIPTORS, BLOCK, DELIMITER], b"refused 76 42\n"),
     (&[DESCRIPTORS, b"\x30\x03abc"], b"refused 66 43\n"),
+    // The sync code of a FLAC frame, and its last checksum.
     (
         &[HEADER, FLAC, ELEMENT, MIX, HEAD, SAMPLES],
-        b"refused 98 45\n",
+        b"refused 98 44\n",
+    ),
+    (
+        &[HEADER, FLAC, ELEMENT, MIX, FLAC_FRAME, OTHER_FLAC_FRAME],
+        b"refused 115 44\n",
     ),
 ];
 

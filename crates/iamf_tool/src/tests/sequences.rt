@@ -1,8 +1,8 @@
 //! `check` and `canon` on worked examples.
 use super::case::{Case, encoded, reported, whole};
 use super::parts::{
-    BLOCK, CODEC, DELIMITER, DESCRIPTORS, ELEMENT, FLAC, HEAD, HEADER, MIX, MIX_OF_BOTH, MONO,
-    OPUS, SAMPLES, SECOND_ELEMENT,
+    BLOCK, CODEC, DELIMITER, DESCRIPTORS, ELEMENT, FLAC, FLAC_FRAME, HEAD, HEADER, MIX,
+    MIX_OF_BOTH, MONO, OPUS, SAMPLES, SECOND_ELEMENT,
 };
 use crate::status::Status;
 use std::alloc::{AllocError, Global};
@@ -136,11 +136,37 @@ const REPORTS: &[Written] = &[
         &[LINES, b"mix 3 1 1 fits\n", NO_UNIT],
     ),
     (
-        &[HEADER, FLAC, ELEMENT, MIX],
+        &[HEADER, FLAC, ELEMENT, MIX, FLAC_FRAME],
         &[
             b"profile 0 0\ncodec 0 fLaC 8 48000 16\nelement 1 scalable 1 2\nmix 2 1 1 fits\n",
+            ONE_UNIT,
+        ],
+    ),
+    // The wide profile.
+    (
+        &[
+            b"\xf8\x06iamf\x02\x00",
+            CODEC,
+            ELEMENT,
+            SECOND_ELEMENT,
+            MIX_OF_BOTH,
+        ],
+        &[
+            b"profile 2 0\ncodec 0 ipcm 8 48000 16\nelement 1 scalable 1 2\n",
+            b"element 2 scalable 1 2\nmix 2 1 2 fits\n",
             NO_UNIT,
         ],
+    ),
+    // A tag.
+    (
+        &[
+            HEADER,
+            CODEC,
+            ELEMENT,
+            b"\x10\x25\x02\x00\x01\x01\x01\x00\x00\x64\x80\xf7\x02\x80\x00\x00\
+              \x65\x80\xf7\x02\x80\x00\x00\x01\x80\x00\x00\x00\x00\x00\x01lang\0en\0",
+        ],
+        &[LINES, b"tag lang en\n", NO_UNIT],
     ),
 ];
 

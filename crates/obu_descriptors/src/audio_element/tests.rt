@@ -195,7 +195,10 @@ fn worked_payloads_are_written_back(rt: HostRuntime) -> Result<(), Fail> {
         (SUBBLOCKS.as_slice(), 0),
     ];
     for (payload, frame_length) in table {
-        let written = read(&rt, rt.alloc(), payload, frame_length).write(rt.alloc())?;
+        let element = read(&rt, rt.alloc(), payload, frame_length);
+        let fields = element.write_fields(rt.alloc())?;
+        assert_eq!(rt; fields.len() + element.tail.len(), payload.len());
+        let written = element.write(rt.alloc())?;
         assert_eq!(rt; written.as_slice(), payload);
     }
     Ok(())

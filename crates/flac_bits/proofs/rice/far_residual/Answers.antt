@@ -1,4 +1,4 @@
-use Rattle.std.proofs.Common.{◌+◌, ◌≡◌, arith, rules, FitsSigned, w64, to_z-of_z, ◌∙◌, ap, ℕ, inl, inr, refl}
+use Rattle.std.proofs.Common.{◌+◌, ◌≡◌, arith, rules, FitsSigned, w64, to_z-of_z, inl, inr, refl}
 use Rattle.flac_bits.specs.Windows.{place_of}
 use Rattle.flac_bits.proofs.RiceCodes.{code_in, code_some, code_none, cut_in, coded_no_one}
 use Rattle.flac_bits.proofs.rice.far_residual.Goals as goal

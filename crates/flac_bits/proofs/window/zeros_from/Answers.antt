@@ -3,7 +3,7 @@ use Rattle.spec_bits.specs.Bits.{all_bits}
 use Rattle.flac_bits.specs.Ones.{first_one}
 use Rattle.flac_bits.specs.Places.{capped}
 use Rattle.flac_bits.specs.Windows.{place_of}
-use Rattle.flac_bits.proofs.LeadingZeros.{goes_on, at_end, plus}
+use Rattle.flac_bits.proofs.LeadingZeros.{goes_on, plus}
 use Rattle.flac_bits.proofs.Moved.{empty, capped-plus, none_left}
 use Rattle.flac_bits.proofs.window.zeros_from.Goals as goal
 

@@ -1,6 +1,6 @@
 use Rattle.std.proofs.Common.{◌≡◌, ℕ, ◌<◌, ◌≤◌, get_or}
 use Rattle.iamf_sequence.specs.declared.unit.Unit.{Unit}
-use Rattle.iamf_sequence.specs.SortedUnits.{SortsTo}
+use Rattle.iamf_sequence.specs.UnitView.{SortsTo}
 use Rattle.iamf_sequence.proofs.decoding.sort_units.Given as goal
 
 abbrev pub invariant-loop-unit : goal.invariant-loop-unit

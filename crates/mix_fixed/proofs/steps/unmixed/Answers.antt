@@ -1,7 +1,7 @@
-use Rattle.std.proofs.Common.{arith, rules, pos, ◌-ℤ◌, ◌*ℤ◌, FitsSigned, unsigned_abs}
+use Rattle.std.proofs.Common.{arith, rules, pos, ◌-ℤ◌, ◌*ℤ◌, FitsSigned}
 use Rattle.std.specs.Int.{w128}
 use Rattle.std.proofs.lemmas.Int.{ints, to_z-of_z}
-use Rattle.mix_fixed.proofs.Floors.{unmixed_most}
+use Rattle.mix_fixed.proofs.FloorSizes.{unmixed_most}
 use Rattle.mix_fixed.proofs.steps.unmixed.Goals as goal
 
 pub returns-clause-value : goal.returns-clause-value

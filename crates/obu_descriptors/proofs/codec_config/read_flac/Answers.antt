@@ -32,4 +32,4 @@ returns-clause-gives c =
       | else-not-info w ↦ rw w.view-is c.in_ok-info.ensures.on_byte
     ] in
     let entry = flac_entry _ _ _ _ _ _ _ all c.requires on_byte c.at-start.ensures.place refl in
-    (Flac all.info all.others, rw c.since.ensures entry, all.is_read)
+    (Flac all.info all.others, rw c.since.ensures.range entry, all.is_read)

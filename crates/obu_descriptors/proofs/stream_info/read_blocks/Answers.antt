@@ -41,7 +41,7 @@ returns-then-head-ge128-clause-gives c =
     let body = taken_bytes (body_size c.in_ok-head.head.now) _ _ _ (rw size at c.in_ok-take_bytes.ensures.takes) (rw size at c.in_ok-take_bytes.ensures.bytes) in
     let end = walk_ends _ _ _ _ w.0 _ _ w.1 head body c.if-head-ge128.true in
     let bytes = between_is _ _ _ _ _ end.1 c.requires c.block.invariant.1 refl in
-    rw (end.0, c.since.ensures, bytes) refl
+    rw (end.0, c.since.ensures.range, bytes) refl
 
 pub block-smaller : goal.block-smaller
 block-smaller c =

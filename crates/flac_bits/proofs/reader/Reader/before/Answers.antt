@@ -1,5 +1,4 @@
-use Rattle.std.proofs.Common.{◌≡◌, ℕ, ◌-◌, ◌*◌, ◌/◌, ◌≤◌, take, length, arith, ap, sym, ◌∙◌}
-use Rattle.spec_bits.specs.Bits.{all_bits}
+use Rattle.std.proofs.Common.{◌≡◌, ◌-◌, ◌/◌, arith, ap, sym, ◌∙◌}
 use Rattle.spec_bits.specs.Cursor.{Cursor, bits_before}
 use Rattle.flac_bits.specs.Windows.{place_of}
 use Rattle.flac_bits.proofs.FieldsAt.{before_bytes}

@@ -1,6 +1,5 @@
-use Rattle.std.proofs.Common.{◌≡◌, ◌*◌, length, arith, drop}
+use Rattle.std.proofs.Common.{length, arith}
 use Rattle.std.proofs.lemmas.Bool.{eq-eqb, eqb-true}
-use Rattle.spec_bits.specs.Bits.{all_bits}
 use Rattle.flac_bits.specs.Windows.{place_of}
 use Rattle.flac_bits.proofs.FieldsAt.{no_bits, no_bits_left}
 use Rattle.flac_bits.proofs.reader.Reader.is_at_end.Goals as goal

@@ -1,6 +1,5 @@
-use Rattle.std.proofs.Common.{◌≡◌, ℕ, ◌*◌, ◌≤◌, length, arith, ap, sym, ◌∙◌}
+use Rattle.std.proofs.Common.{◌≡◌, length, arith, ap, sym, ◌∙◌}
 use Rattle.spec_bits.specs.Cursor.{Cursor, bits_before}
-use Rattle.flac_bits.specs.Places.{cursor}
 use Rattle.flac_bits.specs.Windows.{place_of}
 use Rattle.flac_bits.proofs.FieldsAt.{length_before}
 use Rattle.flac_bits.proofs.reader.Reader.missing.Goals as goal

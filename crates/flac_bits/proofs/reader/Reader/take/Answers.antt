@@ -1,4 +1,4 @@
-use Rattle.std.proofs.Common.{◌≡◌, ◌+◌, ◌-◌, ◌<◌, ◌≤◌, length, drop, arith, refl, sym, ap, subst, ◌∙◌}
+use Rattle.std.proofs.Common.{◌<◌, length, drop, arith, refl}
 use Rattle.std.proofs.lemmas.List.{length-drop}
 use Rattle.spec_bits.specs.Bits.{all_bits}
 use Rattle.spec_bits.proofs.BitsLaws.{length-all_bits}

@@ -1,5 +1,8 @@
-use Rattle.iamf_admission.proofs.Starting.{stands-nil}
+use Rattle.std.proofs.Common.{[], refl}
 use Rattle.iamf_admission.proofs.admission.Admission.new.Goals as goal
 
-pub returns-clause-stands : goal.returns-clause-stands
-returns-clause-stands c = rw (c.new.ensures, c.new-2.ensures, c.new-3.ensures) stands-nil
+pub invariant_of-result : goal.invariant_of-result
+invariant_of-result c = ([], c.new.ensures, refl)
+
+pub returns : goal.returns
+returns c = record { kept_are = c.new.ensures; count = refl }

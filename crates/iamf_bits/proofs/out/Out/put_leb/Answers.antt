@@ -11,4 +11,4 @@ pub returns-clause-bits : goal.returns-clause-bits
 unfolding written_bits bits_of canonical
 returns-clause-bits c =
     let whole : c.self.inside.used ≡ 0 = ap (λ (w : Written). w.used) c.self.view_is ∙ c.requires in
-    rw (← c.self.view_is, whole, c.in_ok-extend_from_slice.ensures.items, append-nil, append-nil, c.shortest-count.ensures.bytes) (all_bits-append c.self.inside.bytes.items (leb_bytes c.args.value))
+    rw (← c.self.view_is, whole, c.in_ok-extend_from_slice.ensures.items, append-nil, append-nil, c.as_slice.ensures, c.new-leb.ensures) (all_bits-append c.self.inside.bytes.items (leb_bytes c.args.value))

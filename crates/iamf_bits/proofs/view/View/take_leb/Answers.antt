@@ -10,28 +10,28 @@ unfolding field_at
 returns-in-Ok-clause-takes c =
     let i = c.self.inside in
     let whole : i.used ≡ 0 = omega (arith, ap (λ (x : Cursor). x.place) c.self.view_is, c.requires, c.self.invariant.0) in
-    let few : c.in-Ok.count ≤ i.end - i.at = omega (arith, rw c.known.ensures.same at c.in-Ok.ensures.0, length-span i.buffer.now i.at i.end c.self.invariant.1) in
-    rw (← c.self.view_is, whole) (leb_found i.buffer.now i.end i.at c.in-Ok.count c.in-Ok.value c.self.invariant.2 c.self.invariant.1 (rw c.known.ensures.same at c.known.ensures.are) few (rw c.known.ensures.same at c.in-Ok.ensures.1)).takes
+    let few : c.in-Ok.count ≤ i.end - i.at = omega (arith, rw c.as_bytes_below_256.ensures.same at c.in-Ok.ensures.0, length-span i.buffer.now i.at i.end c.self.invariant.1) in
+    rw (← c.self.view_is, whole) (leb_found i.buffer.now i.end i.at c.in-Ok.count c.in-Ok.value c.self.invariant.2 c.self.invariant.1 (rw c.as_bytes_below_256.ensures.same at c.as_bytes_below_256.ensures.below) few (rw c.as_bytes_below_256.ensures.same at c.in-Ok.ensures.1)).takes
 
 pub returns-in-Ok-clause-bytes : goal.returns-in-Ok-clause-bytes
 returns-in-Ok-clause-bytes c =
     let i = c.self.inside in
     let whole : i.used ≡ 0 = omega (arith, ap (λ (x : Cursor). x.place) c.self.view_is, c.requires, c.self.invariant.0) in
-    let few : c.in-Ok.count ≤ i.end - i.at = omega (arith, rw c.known.ensures.same at c.in-Ok.ensures.0, length-span i.buffer.now i.at i.end c.self.invariant.1) in
-    rw (← c.self.view_is, whole) (leb_found i.buffer.now i.end i.at c.in-Ok.count c.in-Ok.value c.self.invariant.2 c.self.invariant.1 (rw c.known.ensures.same at c.known.ensures.are) few (rw c.known.ensures.same at c.in-Ok.ensures.1)).bytes
+    let few : c.in-Ok.count ≤ i.end - i.at = omega (arith, rw c.as_bytes_below_256.ensures.same at c.in-Ok.ensures.0, length-span i.buffer.now i.at i.end c.self.invariant.1) in
+    rw (← c.self.view_is, whole) (leb_found i.buffer.now i.end i.at c.in-Ok.count c.in-Ok.value c.self.invariant.2 c.self.invariant.1 (rw c.as_bytes_below_256.ensures.same at c.as_bytes_below_256.ensures.below) few (rw c.as_bytes_below_256.ensures.same at c.in-Ok.ensures.1)).bytes
 
 pub returns-in-Err-clause-takes : goal.returns-in-Err-clause-takes
 unfolding field_at
 returns-in-Err-clause-takes c =
     let i = c.self.inside in
     let whole : i.used ≡ 0 = omega (arith, ap (λ (x : Cursor). x.place) c.self.view_is, c.requires, c.self.invariant.0) in
-    (rw (← c.self.view_is, whole) (leb_fails i.buffer.now i.end i.at c.in-Err.fault c.self.invariant.2 (rw c.known.ensures.same at c.known.ensures.are) (rw c.known.ensures.same at c.in-Err.ensures)).takes, refl)
+    (rw (← c.self.view_is, whole) (leb_fails i.buffer.now i.end i.at c.in-Err.fault c.self.invariant.2 (rw c.as_bytes_below_256.ensures.same at c.as_bytes_below_256.ensures.below) (rw c.as_bytes_below_256.ensures.same at c.in-Err.ensures)).takes, refl)
 
 pub returns-in-Err-clause-bytes : goal.returns-in-Err-clause-bytes
 returns-in-Err-clause-bytes c =
     let i = c.self.inside in
     let whole : i.used ≡ 0 = omega (arith, ap (λ (x : Cursor). x.place) c.self.view_is, c.requires, c.self.invariant.0) in
-    rw (← c.self.view_is, whole) (leb_fails i.buffer.now i.end i.at c.in-Err.fault c.self.invariant.2 (rw c.known.ensures.same at c.known.ensures.are) (rw c.known.ensures.same at c.in-Err.ensures)).bytes
+    rw (← c.self.view_is, whole) (leb_fails i.buffer.now i.end i.at c.in-Err.fault c.self.invariant.2 (rw c.as_bytes_below_256.ensures.same at c.as_bytes_below_256.ensures.below) (rw c.as_bytes_below_256.ensures.same at c.in-Err.ensures)).bytes
 
 pub returns-in-Ok-clause-spelled : goal.returns-in-Ok-clause-spelled
 returns-in-Ok-clause-spelled c = moves_past Leb128 _ _ _ (returns-in-Ok-clause-takes c)

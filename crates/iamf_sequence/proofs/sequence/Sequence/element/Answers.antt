@@ -1,8 +1,8 @@
 use Rattle.std.proofs.Common.{◌<◌, length, sym, subst}
 use Rattle.iamf_sequence.specs.SequenceValue.{SequenceValue}
 use Rattle.iamf_sequence.specs.SequenceView.{IsSequence}
-use Rattle.iamf_sequence.proofs.SequenceParts.{elements_counted, found_at}
-use Rattle.iamf_sequence.specs.KeptView.{element_and_tail}
+use Rattle.iamf_sequence.proofs.SequenceParts.{elements_counted, found_at, valid_at}
+use Rattle.iamf_sequence.specs.ContentsView.{element_and_tail}
 use Rattle.iamf_sequence.proofs.sequence.Sequence.element.Goals as goal
 
 pub returns-clause-tail : goal.returns-clause-tail
@@ -10,3 +10,9 @@ returns-clause-tail c =
     let is = subst (λ (v : SequenceValue). IsSequence c.self.inside.parts v) c.self.view_is c.self.invariant in
     let below = subst (λ n. c.args.i < n) (sym (elements_counted c.self.inside.parts c.args.self.now is)) c.requires in
     found_at element_and_tail c.self.inside.parts.elements.items c.as_slice.result.now _ c.args.i c.index-as_slice-i.result c.as_slice.ensures.value c.index-as_slice-i.is below is.element_tails
+
+pub returns-clause-valid : goal.returns-clause-valid
+returns-clause-valid c =
+    let is = subst (λ (v : SequenceValue). IsSequence c.self.inside.parts v) c.self.view_is c.self.invariant in
+    let below = subst (λ n. c.args.i < n) (sym (elements_counted c.self.inside.parts c.args.self.now is)) c.requires in
+    valid_at c.self.inside.parts.elements.items c.as_slice.result.now c.args.i c.index-as_slice-i.result c.as_slice.ensures.value c.index-as_slice-i.is below is.valid

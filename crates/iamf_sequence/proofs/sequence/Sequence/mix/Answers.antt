@@ -2,7 +2,7 @@ use Rattle.std.proofs.Common.{◌<◌, length, sym, subst}
 use Rattle.iamf_sequence.specs.SequenceValue.{SequenceValue}
 use Rattle.iamf_sequence.specs.SequenceView.{IsSequence}
 use Rattle.iamf_sequence.proofs.SequenceParts.{mixes_counted, found_at}
-use Rattle.iamf_sequence.specs.KeptView.{mix_and_tail}
+use Rattle.iamf_sequence.specs.ContentsView.{mix_and_tail}
 use Rattle.iamf_sequence.proofs.sequence.Sequence.mix.Goals as goal
 
 pub returns-clause-tail : goal.returns-clause-tail

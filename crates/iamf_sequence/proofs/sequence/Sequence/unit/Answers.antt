@@ -2,6 +2,7 @@ use Rattle.std.proofs.Common.{◌<◌, length, sym, ap, subst, ◌∙◌, arith}
 use Rattle.iamf_sequence.specs.SequenceValue.{SequenceValue}
 use Rattle.iamf_sequence.specs.SequenceView.{IsSequence}
 use Rattle.iamf_sequence.proofs.SequenceParts.{units_counted, unit_found}
+use Rattle.iamf_sequence.proofs.AdmittedRoles.{roles_admitted}
 use Rattle.iamf_sequence.proofs.UnitFrames.{unit_complete}
 use Rattle.iamf_sequence.proofs.sequence.Sequence.unit.Goals as goal
 
@@ -13,7 +14,7 @@ returns-clause-is c =
 pub returns-clause-complete : goal.returns-clause-complete
 returns-clause-complete c =
     let is = subst (λ (v : SequenceValue). IsSequence c.self.inside.parts v) c.self.view_is c.self.invariant in
-    λ v s there. unit_complete c.args.self.now.bytes c.args.self.now.entries c.args.u v s c.requires is.read there
+    λ v s there. unit_complete c.args.self.now.entries c.args.u v s c.requires (roles_admitted c.self.inside.parts.admission c.args.self.now.entries is.admission) is.read.whole there
 
 pub prove-unreachable-requires : goal.prove-unreachable-requires
 prove-unreachable-requires c =

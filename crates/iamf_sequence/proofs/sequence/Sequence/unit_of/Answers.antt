@@ -8,7 +8,7 @@ use Rattle.iamf_sequence.proofs.sequence.Sequence.unit_of.Goals as goal
 pub returns : goal.returns
 returns c =
     let is = subst (λ (v : SequenceValue). IsSequence c.self.inside.parts v) c.self.view_is c.self.invariant in
-    number_at c.self.inside.parts c.args.self.now c.as_slice-obus.result.now c.args.i _ c.as_slice-obus.ensures.value c.requires is
+    c.index_of.ensures ∙ number_at c.self.inside.parts c.args.self.now c.as_slice-obus.result.now c.args.i _ c.as_slice-obus.ensures.value c.requires is
 
 pub prove-unreachable-requires : goal.prove-unreachable-requires
 prove-unreachable-requires c =

@@ -1,5 +1,4 @@
-use Rattle.std.proofs.Common.{◌-◌, length, map, take, ap, ◌∙◌}
-use Rattle.spec_layouts.specs.Layouts.{channels}
+use Rattle.std.proofs.Common.{map, take, ap, ◌∙◌}
 use Rattle.spec_gains.specs.Modes.{coefficients_of}
 use Rattle.spec_gains.proofs.ModeLemmas.{mode_bounded}
 use Rattle.spec_demix.specs.Kinds.{kind_of}

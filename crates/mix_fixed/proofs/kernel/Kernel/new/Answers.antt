@@ -1,8 +1,5 @@
-use Rattle.std.proofs.Common.{arith, ◌≡◌, ◌<◌, ◌≤◌, ◌+◌, length, take, ◌∙◌, sym, ap, ◌++◌, ◌∷◌, []}
-use Rattle.std.proofs.lemmas.List.{length-set, take_more_set}
-use Rattle.spec_demix.specs.Elements.{demix_layer_of}
-use Rattle.obu_descriptors.specs.LayerView.{view_layer}
-use Rattle.mix_fixed.specs.Kernel.{IsKernel}
+use Rattle.std.proofs.Common.{arith, ◌≡◌, ◌<◌, ◌≤◌, ◌+◌, length, ◌∙◌, sym, ap, ◌++◌, ◌∷◌, []}
+use Rattle.std.proofs.lemmas.List.{length-set, length-take-le, take_more_set}
 use Rattle.demix_channels.proofs.SeenLayers.{seen}
 use Rattle.mix_fixed.proofs.KeptLayers.{few, one_more, kernel_is, target_kept}
 use Rattle.mix_fixed.proofs.kernel.Kernel.new.Goals as goal
@@ -26,10 +23,16 @@ pub invariant_of-result : goal.invariant_of-result
 invariant_of-result c =
     let e : c.loop-i.i ≡ c.args.target + 1 = omega arith in
     let k = rw e at c.loop-i.invariant.kept in
-    rw k (kernel_is c.args.layers.now c.args.target c.requires.target c.requires.chain c.requires.gains)
+    rw k (kernel_is c.args.layers.now c.args.target c.sent_by_each-sent.result c.requires.target c.requires.chain c.requires.gains (rw k at c.sent_by_each-sent.ensures))
 
 pub returns-clause-channels : goal.returns-clause-channels
 returns-clause-channels c =
     let e : c.loop-i.i ≡ c.args.target + 1 = omega arith in
     let k = rw e at c.loop-i.invariant.kept in
     rw k (target_kept c.args.layers.now c.args.target c.requires.target)
+
+pub sent_by_each-sent-requires-clause-few : goal.sent_by_each-sent-requires-clause-few
+sent_by_each-sent-requires-clause-few c =
+    let f = few (seen c.args.layers.now) c.args.target c.requires.chain in
+    let room : c.args.target + 1 ≤ length c.loop-i.kept = rw c.loop-i.invariant.long (omega arith) in
+    rw (length-take-le (c.args.target + 1) c.loop-i.kept room) (omega arith)

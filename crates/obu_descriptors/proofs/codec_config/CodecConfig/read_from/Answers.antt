@@ -7,8 +7,8 @@ use Rattle.obu_descriptors.proofs.CodecReading.{Heads, config_of, flac_config_re
 use Rattle.obu_descriptors.proofs.codec_config.CodecConfig.read_from.Goals as goal
 use Rattle.obu_descriptors.proofs.codec_config.CodecConfig.read_from.Goals.{else-codec_id-ne1716281667-via-then-codec_id-ne1716281667+else-codec_id-ne1768973165, else-codec_id-ne1716281667-via-else-codec_id-ne1716281667, then-codec_id-eq1716281667+in_ok-coding, else-codec_id-eq1716281667+in_ok-coding-2}
 
-pub returns : goal.returns
-returns c =
+pub returns-clause-gives : goal.returns-clause-gives
+returns-clause-gives c =
     let roll : c.in_ok-take_i16.field-0 ≡ pos 0 = let fits : SFits w16 c.in_ok-take_i16.field-0 = search rules in sym (to_z-of_z w16 c.in_ok-take_i16.field-0 fits) ∙ ap (to_z w16) c.if-branch-ne0.false in
     elim c.if-codec_id-eq1716281667.branch [
       | then-codec_id-eq1716281667+in_ok-coding w ↦

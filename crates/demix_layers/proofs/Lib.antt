@@ -1,0 +1,5 @@
+pub mod StepLemmas
+pub mod WalkLemmas
+pub mod Floors
+pub mod WrittenRow
+pub mod WholeScenes

@@ -1,0 +1,4 @@
+pub mod Within
+pub mod Quotients
+pub mod SceneView
+pub mod SceneLaws

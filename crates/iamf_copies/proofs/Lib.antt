@@ -1,0 +1,2 @@
+pub mod SetsOfBytes
+pub mod OneMoreEntry

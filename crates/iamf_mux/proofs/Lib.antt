@@ -1,0 +1,5 @@
+pub mod Gathers
+pub mod ObuBytes
+pub mod OneObu
+pub mod Movies
+pub mod BareSize

@@ -1,0 +1,65 @@
+-- What is gathered of a sequence for its file, OBU by OBU.
+use Rattle.std.specs.Prelude.{◌≡◌, ℕ, ◌+◌, ◌==◌, Bool, not, ◌&&◌, if◌then◌else◌, List, [], ◌∷◌, ◌++◌, length, map, take, slice_index, slice_set, Option, Some, None}
+use Rattle.spec_obu.specs.Kinds.{obu_type_of, is_descriptor}
+use Rattle.spec_obu.specs.Header.{Head}
+use Rattle.spec_boxes.specs.ObuLists.{delimits}
+use Rattle.std.specs.List.{flat_map}
+use Rattle.spec_bodies.specs.Spelled.{Spelled, entries_of, bytes_of, AreSequence}
+use Rattle.spec_bodies.specs.SequenceBody.{units, descriptors}
+use Rattle.iamf_sequence.specs.SequenceValue.{SequenceValue}
+use Rattle.mp4_file.specs.Slices.{joined}
+use Rattle.iamf_mux.specs.declared.gathered.Gathered.{Gathered}
+
+-- the bytes of the descriptors and of all units, and how many of the latter each unit has
+pub record Slices : Type 0 where
+  pub descriptors : List ℕ
+  pub units : List ℕ
+  pub unit_lengths : List ℕ
+
+abbrev pub slices_of : Gathered → Slices
+slices_of g = record { descriptors = joined g.descriptors.items; units = joined g.units.items; unit_lengths = g.unit_lengths.items }
+
+abbrev pub no_slices : Slices
+no_slices = record { descriptors = []; units = []; unit_lengths = [] }
+
+-- the next unit is begun
+abbrev pub with_unit : ℕ → Slices → Slices
+with_unit unit s = if unit == length s.unit_lengths then record { descriptors = s.descriptors; units = s.units; unit_lengths = s.unit_lengths ++ 0 ∷ [] } else s
+
+abbrev pub with_data : ℕ → List ℕ → Slices → Slices
+with_data unit bytes s = record {
+  descriptors = s.descriptors;
+  units = s.units ++ bytes;
+  unit_lengths = slice_set s.unit_lengths unit (slice_index s.unit_lengths unit + length bytes);
+}
+
+abbrev pub with_descriptor : List ℕ → Slices → Slices
+with_descriptor bytes s = record { descriptors = s.descriptors ++ bytes; units = s.units; unit_lengths = s.unit_lengths }
+
+-- A delimiter begins its unit, and is no part of it.
+abbrev pub with_obu : Head → Option ℕ → List ℕ → Slices → Slices
+with_obu h (Some unit) bytes s = if delimits (obu_type_of h.kind) then with_unit unit s else with_data unit bytes (with_unit unit s)
+with_obu h None bytes s = if not h.redundant && is_descriptor (obu_type_of h.kind) then with_descriptor bytes s else s
+
+-- These are the OBUs of a sequence.
+pub record AreObusOf (v : SequenceValue) (os : List Spelled) : Type 0 where
+  pub bytes_are : v.bytes ≡ bytes_of os
+  pub entries_are : entries_of os ≡ v.entries
+  pub are : AreSequence os
+
+-- What is gathered is the body of these OBUs.
+pub record IsGathered (s : Slices) (os : List Spelled) : Type 0 where
+  pub descriptors_are : s.descriptors ≡ descriptors os
+  pub units_are : s.units ≡ flat_map (λ (u : List ℕ). u) (units os)
+  pub lengths_are : s.unit_lengths ≡ map length (units os)
+
+-- What is gathered is the body of the first so many OBUs of a sequence, or of all of them.
+pub record IsGatheredUpTo (v : SequenceValue) (i : ℕ) (s : Slices) : Type 0 where
+  pub obus : List Spelled
+  pub are : AreObusOf v obus
+  pub gathered : IsGathered s (take i obus)
+
+pub record IsGatheredOf (v : SequenceValue) (s : Slices) : Type 0 where
+  pub obus : List Spelled
+  pub are : AreObusOf v obus
+  pub gathered : IsGathered s obus

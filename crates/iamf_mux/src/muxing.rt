@@ -1,0 +1,93 @@
+//! A sequence into a file.
+
+ghost use Rattle.std.specs.Prelude.{◌≡◌, ◌+◌, ◌<◌, ◌≤◌, ◌^◌, ℕ, List, length, sum, IfOk, OnOk};
+ghost use Rattle.spec_rules.specs.Units.{unit_count};
+ghost use Rattle.spec_sequence.specs.Parts.{temporal_units};
+ghost use Rattle.spec_sequence.specs.Reading.{values_of, roles};
+ghost use Rattle.spec_boxes.specs.Laws.{Holds};
+ghost use Rattle.spec_bodies.specs.SequenceBody.{HasSequenceBody};
+ghost use Rattle.spec_bodies.specs.SequenceFile.{starts, IsFileOf};
+ghost use Rattle.iamf_mux.specs.Gathering.{slices_of, IsGatheredUpTo, IsGatheredOf};
+ghost use Rattle.iamf_mux.specs.Rates.{rate_in};
+
+use crate::gathered::Gathered;
+use iamf_sequence::Sequence;
+use mp4_file::{Movie, write_movie};
+use obu_descriptors::Coding;
+use std::alloc::{AllocError, Global};
+
+// OBU `i` is gathered after those before it. `bytes` are those of the sequence.
+fn put<'a>(
+    gathered: &mut Gathered<'a>,
+    sequence: &Sequence<'a>,
+    bytes: &'a [u8],
+    i: usize,
+) -> Result<(), AllocError>
+    requires same { bytes.now ≡ sequence.now.bytes }
+    requires below { i < length sequence.now.entries }
+    requires small { length sequence.now.bytes ≤ 2 ^ 30 }
+    requires so_far { IsGatheredUpTo sequence.now i (slices_of gathered.old) }
+    ensures { OnOk result (IsGatheredUpTo sequence.now (i + 1) (slices_of gathered.new)) }
+{
+    let obu = sequence.obu(i);
+    let end = obu.end.min(bytes.len());
+    gathered.add(&obu.head, sequence.unit_of(i), &bytes[obu.at..end])
+}
+
+fn gather<'a>(alloc: Global, sequence: &Sequence<'a>) -> Result<Gathered<'a>, AllocError>
+    requires { length sequence.now.bytes ≤ 2 ^ 30 }
+    ensures { IfOk result (λ g. IsGatheredOf sequence.now (slices_of g)) }
+{
+    let bytes = sequence.bytes();
+    let mut gathered = Gathered::new(alloc);
+    for i in 0..sequence.count() {
+        put(&mut gathered, sequence, bytes, i)?;
+    }
+    Ok(gathered)
+}
+
+// Samples of a second, per channel.
+fn sample_rate(coding: &Coding<'_>) -> u32
+    ensures { result ≡ rate_in coding.now }
+{
+    match coding {
+        Coding::Lpcm { rate, .. } | Coding::Flac { rate, .. } => *rate,
+    }
+}
+
+// How many samples, per channel, are trimmed at the starts of units.
+fn trimmed(sequence: &Sequence<'_>) -> u64
+    requires { unit_count (roles sequence.now.entries) ≤ 2 ^ 29 }
+    ensures { result ≡ sum (starts (temporal_units (values_of sequence.now.entries))) }
+{
+    let mut total = 0;
+    for u in 0..sequence.unit_count() {
+        total += u64::from(sequence.unit(u).trim().start);
+    }
+    total
+}
+
+/// The MP4 file of a sequence of at most 2^30 bytes: its plain descriptors, and each temporal unit as a sample, without
+/// delimiters, reserved OBUs and redundant copies (IAMF 1.0.0, "ISOBMFF IAMF Encapsulation").
+///
+/// # Errors
+///
+/// Want of memory alone.
+pub fn mux(alloc: Global, sequence: &Sequence<'_>) -> Result<Vec<u8>, AllocError>
+    requires { length sequence.now.bytes ≤ 2 ^ 30 }
+    ensures file { IfOk result (λ v. IsFileOf sequence.now.bytes v.items) }
+    ensures holds { IfOk result (λ v. (d : List ℕ) × (u : List (List ℕ)) × HasSequenceBody sequence.now.bytes d u × Holds v.items d u) }
+{
+    let gathered = gather(alloc, sequence)?;
+    let codec = sequence.codec();
+    let movie = Movie {
+        descriptors: &gathered.descriptors,
+        data: &gathered.units,
+        unit_lengths: &gathered.unit_lengths,
+        frame_length: codec.frame_length,
+        sample_rate: sample_rate(&codec.coding),
+        trimmed: trimmed(sequence),
+        kept: sequence.kept(),
+    };
+    write_movie(alloc, &movie)
+}

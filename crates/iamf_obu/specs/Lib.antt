@@ -1,0 +1,3 @@
+pub mod ContentView
+pub mod ContentReading
+pub mod ContentWriting

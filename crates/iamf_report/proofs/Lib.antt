@@ -1,0 +1,4 @@
+pub mod MixCounts
+pub mod OneMoreObu
+pub mod ReportText
+pub mod TextLaws

@@ -1,0 +1,17 @@
+pub mod Ids
+pub mod Slots
+pub mod Totals
+pub mod Balance
+pub mod Orderly
+pub mod UnitCount
+pub mod Faulting
+pub mod KeptDescriptors
+pub mod KeptSamples
+pub mod KeptUnits
+pub mod KeptSubstreams
+pub mod KeptBlocks
+pub mod Clashes
+pub mod DefiningSteps
+pub mod Lawful
+pub mod OneMore
+pub mod Decoding

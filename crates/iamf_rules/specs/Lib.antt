@@ -1,0 +1,13 @@
+pub mod SlotSteps
+pub mod Finding
+pub mod Totals
+pub mod UnitSteps
+pub mod DescriptorSteps
+pub mod BlockSteps
+pub mod Defining
+pub mod DefinitionSteps
+pub mod RoleView
+pub mod RulesSteps
+pub mod DescriptorAdding
+pub mod Standing
+pub mod Coding

@@ -1,7 +1,0 @@
-use Rattle.std.proofs.Common.{◌≡◌, ◌++◌, take}
-use Rattle.std.specs.List.{flat_map}
-use Rattle.iamf_sequence.specs.Lines.{element_text}
-use Rattle.iamf_sequence.proofs.reporting.push_elements.Given as goal
-
-abbrev pub invariant-loop-element : goal.invariant-loop-element
-invariant-loop-element l = l.text.items ≡ l.fn.text.items ++ flat_map element_text (take l.element-index l.elements)

@@ -1,8 +1,0 @@
-use Rattle.std.proofs.Common.{◌≡◌, take, length}
-use Rattle.spec_descriptors.specs.AudioElement.{substream_channels_of}
-use Rattle.obu_descriptors.specs.ConfigView.{view_config}
-use Rattle.iamf_sequence.specs.RulesView.{known_channels}
-use Rattle.iamf_sequence.proofs.rules.channels_of.Given as goal
-
-abbrev pub invariant-loop-i : goal.invariant-loop-i
-invariant-loop-i l = l.channels.items ≡ take l.i (known_channels (substream_channels_of (view_config (length l.element.substreams.items) l.element.config)))

@@ -1,0 +1,5 @@
+pub mod Fronts
+pub mod Passing
+pub mod Walking
+pub mod Pieces
+pub mod Checking

@@ -1,0 +1,5 @@
+pub mod Waiting
+pub mod Front
+pub mod Standing
+pub mod Steps
+pub mod CheckerView

@@ -1,0 +1,12 @@
+//! IAMF sequences that are checked as they come in, piece by piece.
+#![tactic(auto)]
+
+mod checker;
+mod front;
+mod open;
+mod refusal;
+#[cfg(test)]
+mod tests;
+mod walk;
+
+pub use checker::StreamChecker;

@@ -1,6 +1,0 @@
-use Rattle.spec_sequence.specs.Canonical.{encoded}
-use Rattle.iamf_tool.proofs.Refused.{answered}
-use Rattle.iamf_tool.proofs.checking.canon.Goals as goal
-
-pub returns-in-Err : goal.returns-in-Err
-returns-in-Err c = answered _ _ encoded c.args.bytes.now c.answer_to.ensures c.in-Err.ensures.refused

@@ -1,0 +1,9 @@
+pub mod Filtered
+pub mod Alike
+pub mod SpelledRoles
+pub mod Rebuilt
+pub mod OneMore
+pub mod Rebuilding
+pub mod Sequences
+pub mod BodyLaws
+pub mod Growing

@@ -1,0 +1,4 @@
+pub mod Spelled
+pub mod SequenceBody
+pub mod SequenceFile
+pub mod Laws

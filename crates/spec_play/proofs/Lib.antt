@@ -1,0 +1,11 @@
+pub mod ErrorsOfMixing
+pub mod ChainsUpTo
+pub mod Tests
+pub mod GainsBounded
+pub mod SelectedMixes
+pub mod MixIsNear
+pub mod PlayableMixes
+pub mod PlayedFiles
+pub mod LayerChains
+pub mod SelectedSequences
+pub mod FrameRows

@@ -1,0 +1,12 @@
+pub mod Code
+pub mod Mixes
+pub mod UsedLayers
+pub mod CodedSamples
+pub mod GainsOverTime
+pub mod DemixingOverTime
+pub mod Waves
+pub mod Selection
+pub mod Exact
+pub mod FixedMix
+pub mod Playing
+pub mod Laws

@@ -1,0 +1,3 @@
+pub mod NarrowReports
+pub mod Escapes
+pub mod Examples

@@ -1,0 +1,9 @@
+pub mod Basics
+pub mod DescriptorLists
+pub mod Ranks
+pub mod Placing
+pub mod UnitLists
+pub mod OpenUnits
+pub mod NoFault
+pub mod DistinctIds
+pub mod Examples

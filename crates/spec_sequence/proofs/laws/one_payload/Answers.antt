@@ -1,5 +1,0 @@
-use Rattle.spec_sequence.proofs.Payloads.{exact_payload}
-use Rattle.spec_sequence.proofs.laws.one_payload.Goals as goal
-
-pub returns : goal.returns
-returns c = exact_payload

@@ -1,0 +1,3 @@
+pub mod SureFaults
+pub mod OwnFaults
+pub mod Settling

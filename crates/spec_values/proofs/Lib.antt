@@ -1,0 +1,10 @@
+pub mod WholeBytes
+pub mod DescriptorBytes
+pub mod MixBytes
+pub mod BlockBytes
+pub mod BytesOfBits
+pub mod Tables
+pub mod Payloads
+pub mod Obus
+pub mod KindsOfTypes
+pub mod Contents

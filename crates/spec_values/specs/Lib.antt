@@ -1,0 +1,5 @@
+pub mod Code
+pub mod Content
+pub mod Value
+pub mod Canonical
+pub mod Laws

@@ -53,6 +53,22 @@ judge "0: the sample is accepted" $? 0 '' "$work/report"
 "$tool" canon <"$sample" >"$work/out" 2>"$work/notes"
 judge "0: the sample is canonical" $? 0 '' "$sample"
 
+# The sample's descriptors, its mix with a tag, as the first byte says: plain, and again as a redundant copy.
+tagged_mix() {
+    printf "$1\\045"
+    tail -c +39 "$sample" | head -c 28
+    printf '\001lang\000en\000'
+}
+{
+    head -c 36 "$sample"
+    tagged_mix '\020'
+    tagged_mix '\024'
+} >"$work/tagged"
+printf '%s\n' 'profile 0 0' 'codec 0 ipcm 8 48000 16' 'element 1 scalable 1 2' 'mix 2 1 1 fits' 'tag lang en' \
+    'units 0' 'samples 0' >"$work/tagged_report"
+"$tool" check <"$work/tagged" >"$work/out" 2>"$work/notes"
+judge "0: tags are reported once, and not of a redundant copy" $? 0 '' "$work/tagged_report"
+
 for command in check canon; do
     head -c 68 "$sample" | "$tool" $command >"$work/out" 2>"$work/notes"
     judge "1: $command: a sample without its frame is refused at its end" $? 1 'refused 68 39' "$work/nothing"

@@ -19,7 +19,8 @@ import sys
 import time
 
 import streams
-from run import PROGRAM, RUNS, Fails, count_with_callgrind, head, met, row, run_once, run_script
+from run import (NO_RUN, PROGRAM, RUNS, Fails, Run, better, count_with_callgrind, figure, heads_of_figures, ratios, row, run_once,
+                 run_script)
 
 DEPTH = 24
 LEVEL = "-5"
@@ -77,24 +78,24 @@ def coded(folder, name, data, channels, block):
     return stream, whole[4:places[0][0]], [whole[at:at + size] for at, size, length in places if length == block]
 
 
-def sequence(path, layers, block, metadata, substreams):
-    """Writes the frames of the substreams, unit by unit, and answers how many units these are."""
+def parts_of(layers, block, metadata, substreams):
+    """The descriptors of a sequence, and its units, each with a frame of each substream."""
     codec = streams.obu(streams.CODEC, b"\x00fLaC" + streams.leb(block) + b"\x00\x00" + metadata)
-    units = min(len(frames) for frames in substreams)
-    with open(path, "wb") as out:
-        out.write(streams.header() + codec + streams.scalable(1, list(range(len(substreams))), layers)
-                  + streams.obu(streams.MIX, streams.mix_payload(1, 1)))
-        for unit in range(units):
-            for substream, frames in enumerate(substreams):
-                out.write(streams.obu(streams.FIRST_FRAME + substream, frames[unit]))
-    return units
+    first = (streams.header() + codec + streams.scalable(1, list(range(len(substreams))), layers)
+             + streams.obu(streams.MIX, streams.mix_payload(1, 1)))
+    units = [b"".join(streams.obu(streams.FIRST_FRAME + i, frame) for i, frame in enumerate(unit)) for unit in zip(*substreams)]
+    return first, units
 
 
 def made(folder, name, layers, block, sounds, periods):
     """A sequence, the streams of its substreams, and how many samples it has."""
     parts = [coded(folder, f"{name}{i}", data * periods, channels, block) for i, (data, channels) in enumerate(sounds)]
     path = os.path.join(folder, name + ".iamf")
-    units = sequence(path, layers, block, parts[0][1], [frames for _, _, frames in parts])
+    first, each = parts_of(layers, block, parts[0][1], [frames for _, _, frames in parts])
+    with open(path, "wb") as out:
+        out.write(first)
+        out.writelines(each)
+    units = len(each)
     samples = units * block * sum(channels for _, channels in sounds)
     with open(os.path.join(folder, "report"), "wb+") as report_of:
         run_once([PROGRAM, "check"], path, report_of)
@@ -104,37 +105,51 @@ def made(folder, name, layers, block, sounds, periods):
     return path, [stream for stream, _, _ in parts], samples
 
 
-def test_streams(paths):
-    """The seconds that `flac -t` takes for all streams."""
-    begun = time.perf_counter()
+def run_flac(option, paths):
+    """What `flac` takes for all streams, one after the other; what it writes goes nowhere."""
+    seconds = cpu = peak = 0
     for path in paths:
-        subprocess.run(["flac", "-t", "-s", path], stdout=subprocess.DEVNULL, stderr=subprocess.DEVNULL, check=True)
-    return time.perf_counter() - begun
+        begun = time.perf_counter()
+        child = subprocess.Popen(["flac", option, "-c", "-s", path] if option == "-d" else ["flac", option, "-s", path],
+                                 stdout=subprocess.DEVNULL, stderr=subprocess.DEVNULL)
+        _, status, usage = os.wait4(child.pid, 0)
+        seconds += time.perf_counter() - begun
+        cpu += usage.ru_utime + usage.ru_stime
+        peak = max(peak, usage.ru_maxrss * 1024)
+        child.returncode = os.waitstatus_to_exitcode(status)
+        if child.returncode != 0:
+            raise Fails(f"flac {option} ended with {child.returncode}")
+    return Run(seconds, cpu, peak)
+
+
+def measure(path, parts):
+    """The best runs of `check` and of `flac -t`, in turns."""
+    checking = testing = NO_RUN
+    for _ in range(RUNS):
+        with open(os.devnull, "wb") as out:
+            checking = better(checking, run_once([PROGRAM, "check"], path, out))
+        testing = better(testing, run_flac("-t", parts))
+    return checking, testing
 
 
 def report(folder, quick):
     if not shutil.which("flac"):
         sys.exit("bench/flac.py: there is no flac here")
     sizes = [2, 4] if quick else [20, 60]
-    head("sound", "samples a frame", "seconds of sound", "check, s", "flac -t, s", "ratio", f"at most {RATIO_LIMIT}",
-         "ns a sample", "instructions a sample (callgrind)", f"at most {INSTRUCTIONS_LIMIT}")
+    heads_of_figures()
     for name, layers in CASES:
         sounds = [(sound(i, channels), channels) for i, channels in enumerate(channels_of(layers))]
         for block in BLOCK_SIZES:
             for seconds in sizes:
+                what = f"{name}, {block} samples a frame, {seconds} s"
                 path, parts, samples = made(folder, "sound", layers, block, sounds, seconds // PERIOD)
-                checking = testing = float("inf")
-                for _ in range(RUNS):
-                    with open(os.devnull, "wb") as out:
-                        checking = min(checking, run_once([PROGRAM, "check"], path, out)[0])
-                    testing = min(testing, test_streams(parts))
-                counted = "not counted"
-                limit = ""
+                checking, testing = measure(path, parts)
+                ratios(f"{what}: check / flac -t", checking, testing, RATIO_LIMIT)
+                row(f"{what}: CPU time", f"{checking.cpu / samples * 1e9:.2f} ns a sample", "", "")
                 if shutil.which("valgrind") and (seconds == sizes[0] or quick):
                     each = count_with_callgrind([PROGRAM, "check"], path) / samples
-                    counted, limit = f"{each:.1f}", met(each <= INSTRUCTIONS_LIMIT)
-                row(name, str(block), str(seconds), f"{checking:.3f}", f"{testing:.3f}", f"{checking / testing:.2f}",
-                    met(checking / testing <= RATIO_LIMIT), f"{checking / samples * 1e9:.2f}", counted, limit)
+                    figure(f"{what}: instructions a sample", f"{each:.1f}", f"at most {INSTRUCTIONS_LIMIT}",
+                           each <= INSTRUCTIONS_LIMIT)
                 for made_file in [path, *parts]:
                     os.remove(made_file)
 

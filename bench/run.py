@@ -13,6 +13,7 @@ import subprocess
 import sys
 import tempfile
 import time
+from collections import namedtuple
 
 HERE = os.path.dirname(os.path.abspath(__file__))
 TOP = os.path.dirname(HERE)
@@ -24,6 +25,11 @@ RUNS = 5
 # Reserved OBUs of type 24: a whole of 1000 bytes, whose size takes two bytes and says 997, and a whole of 2 bytes.
 LONG_OBU = bytes([0xC0, 0xE5, 0x07]) + bytes(997)
 SHORT_OBU = bytes([0xC0, 0x00])
+
+
+# The seconds that a run took by the clock, those of the processor for it and the system together, and its peak memory in bytes.
+Run = namedtuple("Run", "seconds cpu peak")
+NO_RUN = Run(float("inf"), float("inf"), 0)
 
 
 class Fails(Exception):
@@ -46,7 +52,7 @@ def compile_loop(folder, name, *flags):
 
 
 def run_once(command, stream, out):
-    """Runs a command on a stream: its seconds and its peak memory in bytes."""
+    """Runs a command on a stream, and answers what the run took."""
     with open(stream, "rb") as source:
         begun = time.perf_counter()
         child = subprocess.Popen(command, stdin=source, stdout=out)
@@ -55,7 +61,7 @@ def run_once(command, stream, out):
     child.returncode = os.waitstatus_to_exitcode(status)
     if child.returncode != 0:
         raise Fails(f"{command[0]} ended with {child.returncode} on {os.path.basename(stream)}")
-    return seconds, usage.ru_maxrss * 1024
+    return Run(seconds, usage.ru_utime + usage.ru_stime, usage.ru_maxrss * 1024)
 
 
 def compare(folder, commands, stream):
@@ -70,14 +76,18 @@ def compare(folder, commands, stream):
         os.remove(path)
 
 
-def best_of(commands, stream):
-    """For each command the least of its seconds and its peak memory. The commands take turns."""
-    best = [(float("inf"), 0)] * len(commands)
-    with open(os.devnull, "wb") as out:
-        for _ in range(RUNS):
-            for i, command in enumerate(commands):
-                seconds, peak = run_once(command, stream, out)
-                best[i] = (min(best[i][0], seconds), max(best[i][1], peak))
+def better(best, run):
+    """The least seconds and the greatest peak of two."""
+    return Run(min(best.seconds, run.seconds), min(best.cpu, run.cpu), max(best.peak, run.peak))
+
+
+def best_of(commands, stream, runs=RUNS, into=os.devnull):
+    """For each command the least of its seconds, and its peak memory. The commands take turns."""
+    best = [NO_RUN] * len(commands)
+    for _ in range(runs):
+        for i, command in enumerate(commands):
+            with open(into, "wb") as out:
+                best[i] = better(best[i], run_once(command, stream, out))
     return best
 
 
@@ -127,19 +137,46 @@ def met(holds):
     return "met" if holds else "NOT MET"
 
 
+def heads_of_figures():
+    head("what", "figure", "limit", "")
+
+
+def figure(what, value, limit, holds):
+    """A line for one figure, which stands as it is to be read, and its limit."""
+    row(what, value, limit, met(holds))
+
+
+def ratios(what, run, other, limit):
+    """Lines for the time of a run over that of another: by the clock and by the processor."""
+    for name, one, two in (("by the clock", run.seconds, other.seconds), ("CPU time", run.cpu, other.cpu)):
+        figure(f"{what}, {name}", f"{one:.3f} s / {two:.3f} s = {one / two:.2f}", f"at most {limit}", one / two <= limit)
+
+
+def ffmpeg():
+    """The ffmpeg on the path where it reads IAMF, as those from 7.0 on do, and else None, with a line about it."""
+    found = shutil.which("ffmpeg")
+    if found:
+        listing = subprocess.run([found, "-hide_banner", "-demuxers"], capture_output=True, text=True, check=False).stdout
+        if re.search(r"^ *D +iamf ", listing, re.M):
+            return found
+    print("skipped: there is no ffmpeg here that reads IAMF")
+    return None
+
+
 def report_streams(folder, program, loop, sizes):
-    head("input", "program, s", "C loop, s", "ratio", "at most 1.5", "ns a byte",
+    head("input", "program, s", "C loop, s", "ratio", "at most 1.5", "ratio of CPU time", "ns a byte",
          "peak memory, MiB", "above the input, MiB", "at most 32")
     rates = []
     for size in sizes:
         stream = make_stream(os.path.join(folder, f"{size}.iamf"), LONG_OBU, size * MB)
         compare(folder, [program, loop], stream)
-        (seconds, peak), (loop_seconds, _) = best_of([program, loop], stream)
-        ratio = seconds / loop_seconds
-        over = (peak - size * MB) / MIB
-        rates.append(seconds / (size * MB) * 1e9)
-        row(f"{size} MB of 1000-byte OBUs", f"{seconds:.4f}", f"{loop_seconds:.4f}", f"{ratio:.2f}",
-            met(ratio <= 1.5), f"{rates[-1]:.3f}", f"{peak / MIB:.1f}", f"{over:.1f}", met(over <= 32))
+        run, loop_run = best_of([program, loop], stream)
+        ratio = run.seconds / loop_run.seconds
+        over = (run.peak - size * MB) / MIB
+        rates.append(run.seconds / (size * MB) * 1e9)
+        row(f"{size} MB of 1000-byte OBUs", f"{run.seconds:.4f}", f"{loop_run.seconds:.4f}", f"{ratio:.2f}",
+            met(ratio <= 1.5), f"{run.cpu / loop_run.cpu:.2f}", f"{rates[-1]:.3f}", f"{run.peak / MIB:.1f}", f"{over:.1f}",
+            met(over <= 32))
         os.remove(stream)
     print(f"\nTime a byte, the largest input over the smallest: {rates[-1] / rates[0]:.2f} (1 is the same).\n")
 
@@ -147,11 +184,11 @@ def report_streams(folder, program, loop, sizes):
 def report_short(folder, program, printf_loop, loop, size):
     stream = make_stream(os.path.join(folder, "short.iamf"), SHORT_OBU, size * MB)
     compare(folder, [program, printf_loop], stream)
-    (seconds, _), (printf_seconds, _), (loop_seconds, _) = best_of([program, printf_loop, loop], stream)
-    ratio = seconds / printf_seconds
+    run, printf_run, loop_run = best_of([program, printf_loop, loop], stream)
+    ratio = run.seconds / printf_run.seconds
     head("input", "program, s", "printf loop, s", "ratio", "at most 0.6", "C loop, s")
-    row(f"{size} MB of 2-byte OBUs", f"{seconds:.3f}", f"{printf_seconds:.3f}", f"{ratio:.2f}",
-        met(ratio <= 0.6), f"{loop_seconds:.3f}")
+    row(f"{size} MB of 2-byte OBUs", f"{run.seconds:.3f}", f"{printf_run.seconds:.3f}", f"{ratio:.2f}",
+        met(ratio <= 0.6), f"{loop_run.seconds:.3f}")
     print()
     os.remove(stream)
 

@@ -3,17 +3,20 @@
 
 Usage: bench/sequences.py [--quick]
 The stream is LPCM of 7.1.4 in three layers, 24 bits and 1024 samples a frame, 500 MB. All three commands read the same file
-and take turns. The program is $IAMF_TOOL, or the proved one that the launcher built. --quick takes a smaller stream.
+and take turns. `check` is measured too against `ffmpeg`, which copies the packets of the same stream to nowhere. The program is
+$IAMF_TOOL, or the proved one that the launcher built. --quick takes a smaller stream.
 It ends with 1 where a run fails or its answer is wrong, and with 0 else, whatever was measured.
 """
 
 import os
 
 import streams
-from run import MB, MIB, PROGRAM, Fails, best_of, head, met, row, run_once, run_script
+from run import MB, MIB, PROGRAM, Fails, best_of, ffmpeg, figure, heads_of_figures, ratios, row, run_once, run_script
 
 CHECK_LIMIT = 1.5
 CANON_LIMIT = 1.8
+# How many times as fast as ffmpeg `check` has to be.
+FFMPEG_LIMIT = 4
 
 
 def last_lines(path):
@@ -48,19 +51,33 @@ def expect_accepted(folder, path, stream):
     os.remove(written)
 
 
+def report_ffmpeg(path, size):
+    """The time that `ffmpeg` takes to part the stream into packets, over that of `check`."""
+    program = ffmpeg()
+    if not program:
+        return
+    copy = [program, "-nostdin", "-v", "error", "-f", "iamf", "-i", "-", "-c", "copy", "-f", "null", "-"]
+    checking, copying = best_of([[PROGRAM, "check"], copy], path)
+    print()
+    heads_of_figures()
+    for name, one, two in (("by the clock", checking.seconds, copying.seconds), ("CPU time", checking.cpu, copying.cpu)):
+        figure(f"check of {size} MB over ffmpeg -c copy, throughput, {name}", f"{two:.3f} s / {one:.3f} s = {two / one:.2f}",
+               f"at least {FFMPEG_LIMIT}", two / one >= FFMPEG_LIMIT)
+
+
 def report(folder, quick):
     size = 5 if quick else 500
     path = os.path.join(folder, "layered.iamf")
     stream = streams.layered(path, size * MB)
     expect_accepted(folder, path, stream)
     length = os.path.getsize(path)
-    (listing, _), (checking, check_peak), (writing, canon_peak) = best_of(
-        [[PROGRAM, command] for command in ("list", "check", "canon")], path)
-    head("input", "list, s", "check, s", "check / list", f"at most {CHECK_LIMIT}", "canon, s", "canon / list",
-         f"at most {CANON_LIMIT}", "check: above the input, MiB", "canon: above input and output, MiB")
-    row(f"{size} MB of 7.1.4, {stream.obus} OBUs", f"{listing:.3f}", f"{checking:.3f}", f"{checking / listing:.2f}",
-        met(checking / listing <= CHECK_LIMIT), f"{writing:.3f}", f"{writing / listing:.2f}",
-        met(writing / listing <= CANON_LIMIT), f"{(check_peak - length) / MIB:.1f}", f"{(canon_peak - 2 * length) / MIB:.1f}")
+    listing, checking, writing = best_of([[PROGRAM, command] for command in ("list", "check", "canon")], path)
+    heads_of_figures()
+    ratios(f"check / list, {size} MB of 7.1.4, {stream.obus} OBUs", checking, listing, CHECK_LIMIT)
+    ratios(f"canon / list, {size} MB of 7.1.4, {stream.obus} OBUs", writing, listing, CANON_LIMIT)
+    row("check: peak memory", f"{checking.peak / MIB:.1f} MiB", "", "")
+    row("canon: peak memory above input and output", f"{(writing.peak - 2 * length) / MIB:.1f} MiB", "", "")
+    report_ffmpeg(path, size)
 
 
 if __name__ == "__main__":

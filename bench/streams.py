@@ -41,10 +41,16 @@ def codec(frame_length, depth):
     return obu(CODEC, b"\x00ipcm" + leb(frame_length) + b"\x00\x00\x01" + bytes([depth]) + RATE.to_bytes(4, "big"))
 
 
-def scalable(number, substreams, layers):
+def scalable(number, substreams, layers, parameters=()):
     ids = b"".join(map(leb, substreams))
     config = b"".join(bytes([layout * 16, count, coupled]) for layout, count, coupled in layers)
-    return obu(ELEMENT, leb(number) + b"\x00\x00" + leb(len(substreams)) + ids + b"\x00" + bytes([len(layers) * 32]) + config)
+    definitions = leb(len(parameters)) + b"".join(parameters)
+    return obu(ELEMENT, leb(number) + b"\x00\x00" + leb(len(substreams)) + ids + definitions + bytes([len(layers) * 32]) + config)
+
+
+def demixing(parameter, frame_length):
+    """The definition of a demixing parameter, whose defaults are mode 1 and weight 0."""
+    return leb(1) + leb(parameter) + leb(RATE) + b"\x00" + leb(frame_length) * 2 + b"\x20\x00"
 
 
 def gain(parameter):

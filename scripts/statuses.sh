@@ -53,6 +53,21 @@ judge "0: the sample is accepted" $? 0 '' "$work/report"
 "$tool" canon <"$sample" >"$work/out" 2>"$work/notes"
 judge "0: the sample is canonical" $? 0 '' "$sample"
 
+# Two channels of 8 samples, as they stand at the end of the sample.
+{
+    printf 'RIFF\134\000\000\000WAVEfmt \050\000\000\000\376\377\002\000\200\273\000\000\000\356\002\000\004\000\020\000\026\000\020\000\003\000\000\000'
+    printf '\001\000\000\000\000\000\020\000\200\000\000\252\000\070\233\161data\040\000\000\000'
+    tail -c 32 "$sample"
+} >"$work/wave"
+"$tool" play 2 stereo <"$sample" >"$work/out" 2>"$work/notes"
+judge "0: the mix of the sample is played" $? 0 '' "$work/wave"
+
+"$tool" play 3 stereo <"$sample" >"$work/out" 2>"$work/notes"
+judge "1: a mix that is not there is not played" $? 1 'unplayable 50' "$work/nothing"
+
+"$tool" play 02 stereo <"$sample" >"$work/out" 2>"$work/notes"
+judge "2: an id with a zero before it is none" $? 2 'usage: iamf_tool COMMAND < INPUT > OUTPUT' "$work/nothing"
+
 # The sample's descriptors, its mix with a tag, as the first byte says: plain, and again as a redundant copy.
 tagged_mix() {
     printf "$1\\045"

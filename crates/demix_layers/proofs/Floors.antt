@@ -1,11 +1,11 @@
 -- Floors of fractions: only one number is the floor, and it comes in two steps.
-use Rattle.std.proofs.Common.{◌≡◌, ℕ, ◌*◌, ◌-◌, ◌^◌, ◌<◌, ℤ, pos, negsuc, ◌+ℤ◌, ◌*ℤ◌, ◌≤ℤ◌, ◌<ℤ◌, unsigned_abs, arith, ap}
+use Rattle.std.proofs.Common.{◌≡◌, ℕ, ◌*◌, ◌-◌, ◌^◌, ◌<◌, ℤ, pos, negsuc, neg_ℤ, ◌≤◌, ◌+ℤ◌, ◌*ℤ◌, ◌≤ℤ◌, ◌<ℤ◌, unsigned_abs, arith, ap}
 use Rattle.std.proofs.lemmas.Int.{ints}
 use Rattle.std.specs.Int.{int_div_euclid, int_rem_euclid}
 use Rattle.std.proofs.lemmas.Int.{by_lt_z}
 use borrow.Author.Differences.{up, down, product_is}
 use Rattle.spec_demix.specs.Floor.{floor_of}
-use Rattle.spec_demix.proofs.FloorLemmas.{floor-low, floor-high, distribute, mul-ordered}
+use Rattle.spec_demix.proofs.FloorLemmas.{floor-low, floor-high, distribute, negated, mul-ordered}
 
 -- the remainder
 pub floor-rest : (z : ℤ) (n : ℕ) → 0 < n → floor_of z n *ℤ pos n +ℤ int_rem_euclid z (pos n) ≡ z
@@ -98,3 +98,16 @@ whole_small t (pos n) w some wis small =
       by_lt_z (w +ℤ pos (2 ^ 39)) (pos 0) (λ x. absurd (let m = mul-ordered (w +ℤ pos 1) (negsuc (2 ^ 39 - 1)) n (omega (arith, ints)) in let d = distribute w (pos 1) (pos n) in omega (arith, ints))) (λ x. x),
     )
 whole_small t (negsuc n) w some wis small = absurd (omega (arith, ints))
+
+-- the floor's units are at most as many as the value's
+pub floor_most : (t : ℤ) (m n : ℕ) → 0 < m → unsigned_abs t ≤ n * m → unsigned_abs (floor_of (t *ℤ pos (2 ^ 28)) m) ≤ n * 2 ^ 28
+floor_most t m n some most =
+    let q = floor_of (t *ℤ pos (2 ^ 28)) m in
+    let low = floor-low (t *ℤ pos (2 ^ 28)) m some in
+    let high = floor-high (t *ℤ pos (2 ^ 28)) m some in
+    let bound = neg_ℤ (pos (n * 2 ^ 28)) in
+    by_lt_z (pos (n * 2 ^ 28)) q
+    (λ above. absurd (let o = mul-ordered (pos (n * 2 ^ 28) +ℤ pos 1) q m (omega (arith, ints)) in let d = distribute (pos (n * 2 ^ 28)) (pos 1) (pos m) in omega (arith, ints)))
+    (λ few. by_lt_z q bound
+    (λ below. absurd (let o = mul-ordered (q +ℤ pos 1) bound m (omega (arith, ints)) in let d = distribute q (pos 1) (pos m) in let e = negated (pos (n * 2 ^ 28)) (pos m) in omega (arith, ints)))
+    (λ many. omega (arith, ints)))

@@ -8,8 +8,6 @@ mod rows;
 mod samples;
 mod scene;
 mod steps;
-#[cfg(test)]
-mod tests;
 mod units;
 mod walk;
 

@@ -1,6 +1,6 @@
 //! The outputs of an ambisonics element (IAMF 1.0.0, "Ambisonics Config Syntax and Semantics").
 
-ghost use Rattle.std.specs.Prelude.{◌≡◌, ◌+◌, ◌*◌, ◌^◌, ◌<◌, ◌≤◌, ◌⊎◌, pos, ◌*ℤ◌, unsigned_abs, All, length, slice_index};
+ghost use Rattle.std.specs.Prelude.{◌≡◌, ◌+◌, ◌*◌, ◌^◌, ◌<◌, ◌≤◌, ◌⊎◌, pos, ◌*ℤ◌, ◌≤ℤ◌, unsigned_abs, All, length, slice_index};
 ghost use Rattle.spec_demix.specs.Scenes.{mapped, signed_of, coefficient, projected};
 ghost use Rattle.spec_demix.specs.Sizes.{AreSamples};
 ghost use Rattle.demix_layers.specs.SceneLaws.{ValidAreWhole};
@@ -15,6 +15,7 @@ fn mapped(mapping: &[u8], coded: &[i64], c: usize) -> i128
     requires substreams { All (λ n. (n ≡ 255) ⊎ (n < length coded.now)) mapping.now }
     requires samples { AreSamples coded.now }
     ensures value { result ≡ mapped coded.now (slice_index mapping.now c) }
+    ensures most { unsigned_abs result ≤ length coded.now * 2 ^ 31 }
 {
     let substream = mapping[c];
     if substream == 255 {
@@ -58,7 +59,8 @@ fn projected(matrix: &[u8], outputs: usize, channels: usize, coded: &[i64], c: u
     requires all { channels ≡ length coded.now }
     requires output { c < outputs }
     requires samples { AreSamples coded.now }
-    ensures { result ≡ projected matrix.now outputs coded.now c channels }
+    ensures value { result ≡ projected matrix.now outputs coded.now c channels }
+    ensures most { unsigned_abs result ≤ channels * 2 ^ 46 }
 {
     let mut sum: i128 = 0;
     for k in 0..channels {
@@ -70,11 +72,14 @@ fn projected(matrix: &[u8], outputs: usize, channels: usize, coded: &[i64], c: u
 /// Output `c`, counted from 0, of an ambisonics element from the coded samples of one tick.
 ///
 /// The configuration must be ambisonics as it stands in a valid element, and there must be one sample of 32 bits for each of
-/// its coded channels.
+/// its coded channels. The output is at most 2^31 for each of them, and its bottom at most 32768.
 pub fn scene_exact(config: &ElementConfig<'_>, coded: &[i64], c: usize) -> Fraction
     requires played { IsPlayed config.now (length coded.now) c }
     requires samples { AreSamples coded.now }
-    ensures { IsOutput config.now coded.now c result }
+    ensures value { IsOutput config.now coded.now c result }
+    ensures bottom { result.bottom ≤ℤ pos 32768 }
+    ensures most { unsigned_abs result.top ≤ length coded.now * 2 ^ 31 * unsigned_abs result.bottom }
+    ensures small { length coded.now ≤ 255 → unsigned_abs result.top < 2 ^ 39 * unsigned_abs result.bottom }
 {
     match config {
         ElementConfig::Mono { mapping, .. } => Fraction {

@@ -1,6 +1,6 @@
 //! From fractions to the fixed point.
 
-ghost use Rattle.std.specs.Prelude.{◌≡◌, ◌*◌, ◌^◌, ◌<◌, ◌≤◌, pos, ◌*ℤ◌, ◌<ℤ◌, ◌≤ℤ◌, unsigned_abs};
+ghost use Rattle.std.specs.Prelude.{◌≡◌, ℕ, ◌*◌, ◌^◌, ◌<◌, ◌≤◌, pos, ◌*ℤ◌, ◌<ℤ◌, ◌≤ℤ◌, unsigned_abs};
 ghost use Rattle.spec_demix.specs.Floor.{floor_of, unit};
 
 use spec_demix::Fraction;
@@ -21,7 +21,8 @@ fn part_units(rest: i128, bottom: i128) -> i128
 pub fn to_units(value: Fraction) -> i128
     requires bottom { value.bottom <ℤ pos (2 ^ 80) }
     requires small { unsigned_abs value.top < 2 ^ 39 * unsigned_abs value.bottom }
-    ensures { result ≡ floor_of (value.top *ℤ pos unit) (unsigned_abs value.bottom) }
+    ensures value { result ≡ floor_of (value.top *ℤ pos unit) (unsigned_abs value.bottom) }
+    ensures most { (n : ℕ) → unsigned_abs value.top ≤ n * unsigned_abs value.bottom → unsigned_abs result ≤ n * unit }
 {
     let whole = value.top.div_euclid(value.bottom);
     let rest = value.top.rem_euclid(value.bottom);

@@ -4,7 +4,7 @@ ghost use Rattle.spec_obu.specs.Header.{Header};
 ghost use Rattle.spec_rules.specs.Descriptors as descriptors;
 ghost use Rattle.spec_rules.specs.Rules as rules;
 ghost use Rattle.spec_sequence.specs.Reading.{Entry, roles};
-ghost use Rattle.spec_report.specs.Report as report;
+ghost use Rattle.spec_rules.specs.Samples as samples;
 ghost use Rattle.obu_header.specs.View.{head_of};
 ghost use Rattle.iamf_bits.specs.declared.unread.Unread.TheVariants as unread;
 
@@ -134,7 +134,7 @@ impl Admission {
 
     /// The samples of a channel that no trim removes. It is 0 of a spent admission.
     pub fn samples(&self) -> u64
-        ensures { (past : List Entry) → Stands self.now past → result ≡ report.kept (roles past) }
+        ensures { (past : List Entry) → Stands self.now past → result ≡ samples.kept (roles past) }
     {
         match &self.kept {
             Some(kept) => kept.rules.samples(),

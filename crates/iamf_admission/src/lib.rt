@@ -7,8 +7,6 @@ mod definitions;
 mod kept;
 mod parts;
 mod role;
-#[cfg(test)]
-mod tests;
 
 pub use admission::Admission;
 pub use admitted::Admitted;

@@ -19,11 +19,11 @@ use Rattle.spec_rules.specs.Rules.{rate_of}
 use Rattle.spec_values.specs.Value.{ObuValue}
 use Rattle.spec_sequence.specs.ValueRole.{codec_role, role_of_codec}
 use Rattle.spec_sequence.specs.Parts as parts
-use Rattle.spec_sequence.specs.Parts.{FrameValue, UnitValue, unit_value, units_up_to, codec_configs, temporal_units}
+use Rattle.spec_sequence.specs.Parts.{FrameValue, UnitValue, unit_value, units_up_to, codec_configs, temporal_units, first_trim}
 use Rattle.spec_sequence.specs.Reading.{Entry, values_of, roles}
 use Rattle.spec_sequence.proofs.Roles.{roles_of_values}
 use Rattle.spec_sequence.proofs.RolesOfParts.{codecs_are}
-use Rattle.spec_report.specs.Report.{kept}
+use Rattle.spec_rules.specs.Samples.{kept}
 use Rattle.spec_boxes.specs.Laws.{Holds}
 use Rattle.spec_files.specs.MovieFile as written
 use Rattle.spec_bodies.specs.Spelled.{Spelled, entries_of, roles_of, bytes_of, AreSequence}
@@ -41,7 +41,6 @@ use Rattle.obu_descriptors.specs.declared.codec_config.CodecConfig.{CodecConfig}
 use Rattle.obu_descriptors.specs.CodecView.{StandsForCoding, StandsForCodec}
 use Rattle.mp4_file.specs.Slices.{joined, cut}
 use Rattle.iamf_sequence.specs.SequenceValue.{SequenceValue}
-use Rattle.iamf_sequence.specs.UnitView.{first_trim}
 use Rattle.iamf_mux.specs.Gathering.{Slices, AreObusOf, IsGathered}
 use Rattle.iamf_mux.specs.Rates.{rate_in}
 use Rattle.iamf_mux.proofs.Gathers.{total}

@@ -3,8 +3,6 @@
 
 mod content;
 mod reading;
-#[cfg(test)]
-mod tests;
 mod writing;
 
 pub use content::Content;

@@ -24,7 +24,8 @@ use Rattle.spec_rules.proofs.Ranks.{order_parts, no_mix}
 use Rattle.spec_sequence.specs.ValueRole.{role, role_of_codec, element_role, mix_role}
 use Rattle.spec_sequence.specs.Parts.{roles_of, of_plain, header_in, codec_in, element_in, mix_in, sequence_headers, codec_configs, audio_elements, mix_presentations, MixValue, mix_with, mix_of, mix_values}
 use Rattle.spec_sequence.proofs.RolesOfParts.{profiles_are, codecs_are, elements_are, mixes_are}
-use Rattle.spec_report.specs.Report.{tags_or_none, kept}
+use Rattle.spec_report.specs.Report.{tags_or_none}
+use Rattle.spec_rules.specs.Samples.{kept}
 use Rattle.iamf_report.specs.declared.line.HeaderLine.{HeaderLine}
 use Rattle.iamf_report.specs.declared.line.CodecLine.{CodecLine}
 use Rattle.iamf_report.specs.declared.line.ElementLine.{ElementLine}

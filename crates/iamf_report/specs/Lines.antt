@@ -11,7 +11,8 @@ use Rattle.spec_rules.specs.Profile.{fits}
 use Rattle.spec_rules.specs.Units.{unit_count}
 use Rattle.spec_sequence.specs.ValueRole.{role_of_codec, mix_role}
 use Rattle.spec_sequence.specs.Parts.{roles_of, sequence_headers, codec_configs, audio_elements, MixValue, mix_values}
-use Rattle.spec_report.specs.Report.{known_channels, tags_or_none, kept}
+use Rattle.spec_report.specs.Report.{known_channels, tags_or_none}
+use Rattle.spec_rules.specs.Samples.{kept}
 use Rattle.iamf_report.specs.declared.line.ElementKind.{ElementKind}
 use Rattle.iamf_report.specs.declared.line.ElementKind.TheVariants as kinds
 use Rattle.iamf_report.specs.declared.line.ElementLine.{ElementLine}

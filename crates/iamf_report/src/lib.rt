@@ -5,8 +5,6 @@ mod line;
 mod print;
 mod summary;
 mod tally;
-#[cfg(test)]
-mod tests;
 
 pub use print::report;
 pub use summary::Summary;

@@ -16,7 +16,7 @@ ghost use Rattle.spec_rules.specs.Profile as profile;
 ghost use Rattle.spec_rules.specs.Units.{unit_count};
 ghost use Rattle.spec_sequence.specs.ValueRole.{role, role_of_codec, mix_role};
 ghost use Rattle.spec_sequence.specs.Parts.{roles_of};
-ghost use Rattle.spec_report.specs.Report.{kept};
+ghost use Rattle.spec_rules.specs.Samples.{kept};
 ghost use Rattle.obu_descriptors.specs.HeaderView as records;
 ghost use Rattle.obu_descriptors.specs.CodecView.{StandsForCodec};
 ghost use Rattle.obu_descriptors.specs.ConfigView.{view_config};

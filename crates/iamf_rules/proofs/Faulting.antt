@@ -30,8 +30,9 @@ use Rattle.iamf_rules.specs.UnitSteps.{differs, bad_trim, is_full, at_delimiter,
 use Rattle.iamf_rules.specs.BlockSteps.{slot_at, is_late_of}
 use Rattle.iamf_rules.specs.RulesSteps.{or_else, start_fault_of, early_of, time_of, at_slot, frame_fault_of, last_fault_of}
 use Rattle.iamf_rules.specs.Standing.{element_tests, mix_tests, AreTrims, KeepsDescriptors, KeepsUnit, Stands}
-use Rattle.iamf_rules.proofs.Balance.{IsBalanced, later}
-use Rattle.iamf_rules.proofs.Orderly.{IsOrderly, complete_by_count}
+use Rattle.spec_rules.proofs.Balance.{IsBalanced, later}
+use Rattle.spec_rules.proofs.Orderly.{IsOrderly, complete_by_count}
+use Rattle.spec_rules.proofs.Delimiters.{some_delimiter, no_delimiter, ended_is}
 
 -- ---- tables
 
@@ -211,34 +212,6 @@ frame_fault_is a l f balanced st =
 and_true : (b : Bool) → (b && true) ≡ b
 and_true true = refl
 and_true false = refl
-
--- a delimiter and a delimited list
-pub some_delimiter : (l : List Role) → is_delimited l ≡ true → list_any is_delimiter l ≡ true
-unfolding is_delimited
-some_delimiter [] h = absurd (grind arith)
-some_delimiter (Delimiter ∷ xs) h = refl
-some_delimiter (ParameterBlock b ∷ xs) h = absurd (grind arith)
-some_delimiter (AudioFrame f ∷ xs) h = absurd (grind arith)
-some_delimiter (Ignored ∷ xs) h = some_delimiter xs h
-some_delimiter (SequenceHeader p ∷ xs) h = some_delimiter xs h
-some_delimiter (CodecConfig c ∷ xs) h = some_delimiter xs h
-some_delimiter (AudioElement e ∷ xs) h = some_delimiter xs h
-some_delimiter (MixPresentation m ∷ xs) h = some_delimiter xs h
-
-no_delimiter : (l : List Role) → list_any is_data l ≡ false → list_any is_delimiter l ≡ false
-no_delimiter [] h = refl
-no_delimiter (Delimiter ∷ xs) h = absurd (grind arith)
-no_delimiter (ParameterBlock b ∷ xs) h = absurd (grind arith)
-no_delimiter (AudioFrame f ∷ xs) h = absurd (grind arith)
-no_delimiter (Ignored ∷ xs) h = no_delimiter xs h
-no_delimiter (SequenceHeader p ∷ xs) h = no_delimiter xs h
-no_delimiter (CodecConfig c ∷ xs) h = no_delimiter xs h
-no_delimiter (AudioElement e ∷ xs) h = no_delimiter xs h
-no_delimiter (MixPresentation m ∷ xs) h = no_delimiter xs h
-
--- the unit that a delimiter ends is the open one
-pub ended_is : (l : List Role) → is_delimited l ≡ true → list_any is_data l ≡ true → unit_after l Delimiter - 1 ≡ open_unit l
-ended_is l with has = ap (λ n. n - 1) (unit_after-delimiter l (is_delimited-kept l (Delimiter ∷ []) has ∙ with)) ∙ sym (open_unit-with l with)
 
 abbrev delimiter_rows : List Role → List (Option Fault)
 delimiter_rows l = when (not (is_delimited (l ++ Delimiter ∷ []))) fault.Delimiter ∷ when (list_any is_delimiter l && not (is_complete (unit_after l Delimiter - 1) l)) UnitShort ∷ []

@@ -24,7 +24,7 @@ use Rattle.iamf_rules.specs.Finding.{HasAll, HasIds}
 use Rattle.iamf_rules.specs.Totals.{total_of, joined, HasTotals}
 use Rattle.iamf_rules.specs.DescriptorSteps.{primary_in, primary_of, profile_list, raised, with_header, with_codec}
 use Rattle.iamf_rules.specs.Standing.{mix_ids, KeepsDescriptors}
-use Rattle.iamf_rules.proofs.Balance.{IsNoDescriptor, fit_in, fit_is, fits-push}
+use Rattle.spec_rules.proofs.Balance.{IsNoDescriptor, fit_in, fit_is, fits-push}
 
 -- ---- ranks
 

@@ -10,7 +10,7 @@ use Rattle.spec_rules.specs.Descriptors.{codec_of, frame_length}
 use Rattle.spec_rules.specs.Units.{is_data, trim_of, unit_after, trims_in}
 use Rattle.spec_rules.proofs.DescriptorLists.{frame_length-push}
 use Rattle.spec_rules.proofs.UnitLists.{trims_in-push}
-use Rattle.spec_report.specs.Report.{kept_by, kept_in, kept_up_to}
+use Rattle.spec_rules.specs.Samples.{kept_by, kept_in, kept_up_to}
 use Rattle.iamf_rules.specs.UnitSteps.{kept_of}
 use Rattle.iamf_rules.specs.Standing.{AreTrims}
 

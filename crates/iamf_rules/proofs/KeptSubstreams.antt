@@ -15,7 +15,7 @@ use Rattle.spec_rules.proofs.OpenUnits.{frames_of-none}
 use Rattle.iamf_rules.specs.declared.substreams.Slot.{Slot}
 use Rattle.iamf_rules.specs.SlotSteps.{filled, AreNew, HasSome, Adds}
 use Rattle.iamf_rules.specs.Standing.{slot_in, KeepsSubstreams}
-use Rattle.iamf_rules.proofs.Balance.{IsBalanced}
+use Rattle.spec_rules.proofs.Balance.{IsBalanced}
 use Rattle.iamf_rules.proofs.Slots.{apart_after, new_after, channels_none, channels_first, pairs_none, channels_unknown}
 
 some_slot : Option ℕ → ℕ → Option Slot

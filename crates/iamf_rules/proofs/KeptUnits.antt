@@ -18,12 +18,12 @@ use Rattle.spec_rules.proofs.Placing.{in_units-push, find-kept, find-none, is_de
 use Rattle.spec_rules.proofs.DescriptorLists.{frame_length-push}
 use Rattle.spec_rules.proofs.UnitLists.{streams_in-none, streams_in-push, trims_in-push, trims_before-push, in_unit-push, in_unit-here, streams_in-here, trims_in-here, trims_before-here, in_unit-none, trims_in-none, trims_before-none}
 use Rattle.spec_rules.proofs.OpenUnits.{open_unit-delimiter, open_unit-ended, delimiters-none, open_unit-none, open_unit-quiet}
-use Rattle.spec_report.specs.Report.{kept_up_to}
+use Rattle.spec_rules.specs.Samples.{kept_up_to}
 use Rattle.iamf_rules.specs.declared.open_unit.OpenUnit.{OpenUnit}
 use Rattle.iamf_rules.specs.UnitSteps.{differs, kept_of, cuts_one, is_full, closed, begun, holding, with_frame, delimiting, with_delimiter, is_marked}
 use Rattle.iamf_rules.specs.Standing.{AreTrims, KeepsUnitAt, KeepsUnit}
-use Rattle.iamf_rules.proofs.Balance.{IsBalanced, later, open_unit-frame, some_streams}
-use Rattle.iamf_rules.proofs.Orderly.{IsOrderly, full_by_count}
+use Rattle.spec_rules.proofs.Balance.{IsBalanced, later, open_unit-frame, some_streams}
+use Rattle.spec_rules.proofs.Orderly.{IsOrderly, full_by_count}
 use Rattle.iamf_rules.proofs.Faulting.{FirstIs, first_is, marked_is}
 use Rattle.iamf_rules.proofs.KeptSamples.{kept_up_to-here, kept_up_to-none, kept_of-trims}
 

@@ -1,8 +1,6 @@
 pub mod Ids
 pub mod Slots
 pub mod Totals
-pub mod Balance
-pub mod Orderly
 pub mod UnitCount
 pub mod Faulting
 pub mod KeptDescriptors
@@ -12,6 +10,5 @@ pub mod KeptSubstreams
 pub mod KeptBlocks
 pub mod Clashes
 pub mod DefiningSteps
-pub mod Lawful
 pub mod OneMore
 pub mod Decoding

@@ -27,14 +27,14 @@ use Rattle.iamf_rules.specs.BlockSteps.{slot_at, unit_start}
 use Rattle.iamf_rules.specs.RulesSteps.{time_of, AddsFrame, AddsDelimiter, AddsBlock}
 use Rattle.iamf_rules.specs.DescriptorAdding.{AddsElement, AddsMix}
 use Rattle.iamf_rules.specs.Standing.{mix_ids, timed_in, KeepsUnit, KeepsBlocks, KeepsBlocksAt, Stands}
-use Rattle.iamf_rules.proofs.Balance.{IsBalanced, is_full, later, open_unit-frame, some_streams}
+use Rattle.spec_rules.proofs.Balance.{IsBalanced, is_full, later, open_unit-frame, some_streams}
 use Rattle.iamf_rules.proofs.Faulting.{kept_length, kept_rate, differs_is}
 use Rattle.iamf_rules.proofs.KeptDescriptors.{descriptors-other, descriptors-ignored, descriptors-header, descriptors-codec, descriptors-element, descriptors-mix, fits_are}
 use Rattle.iamf_rules.proofs.KeptSamples.{kept_up_to-le}
 use Rattle.iamf_rules.proofs.KeptUnits.{open_unit-le, last-push, unit-frame, unit-block, unit-none, unit-ignored, unit-delimiter}
 use Rattle.iamf_rules.proofs.KeptSubstreams.{substreams-other, substreams-frame, substreams-element}
 use Rattle.iamf_rules.proofs.KeptBlocks.{blocks-quiet, blocks-close, blocks-block, blocks-none, blocks-define, start-small}
-use Rattle.iamf_rules.proofs.Lawful.{Lawful, FrameIsNew, frame_is_new, no_data-header, no_data-push, lawful, apart-element, admitted-push}
+use Rattle.spec_rules.proofs.Lawful.{Lawful, FrameIsNew, frame_is_new, no_data-header, no_data-push, lawful, apart-element, admitted-push}
 
 -- ---- no count comes near the greatest number
 

@@ -14,7 +14,7 @@ use Rattle.spec_rules.specs.Profile.{has_fit}
 use Rattle.spec_rules.specs.Units.{contains, is_none_of, is_data, is_delimiter, frames_of, open_unit, in_unit, streams_in, trims_in, trims_before, blocks_in, block_end}
 use Rattle.spec_rules.specs.Rules.{keeps, cuts, rate_of, element_ids, repeated, unknown, clashing}
 use Rattle.spec_rules.specs.Admitted.{IsAdmitted}
-use Rattle.spec_report.specs.Report.{kept_up_to}
+use Rattle.spec_rules.specs.Samples.{kept_up_to}
 use Rattle.iamf_rules.specs.declared.descriptors.Descriptors.{Descriptors}
 use Rattle.iamf_rules.specs.declared.substreams.Slot.{Slot}
 use Rattle.iamf_rules.specs.declared.open_unit.OpenUnit.{OpenUnit}

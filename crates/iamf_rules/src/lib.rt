@@ -11,8 +11,6 @@ mod open_unit;
 mod role;
 mod rules;
 mod substreams;
-#[cfg(test)]
-mod tests;
 
 pub use role::Role;
 pub use rules::Rules;

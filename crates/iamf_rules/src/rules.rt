@@ -10,7 +10,7 @@ ghost use Rattle.spec_rules.specs.Profile.{fits};
 ghost use Rattle.spec_rules.specs.Units.{open_unit, unit_count};
 ghost use Rattle.spec_rules.specs.Rules.{first_of, fault_before, fault_after, end_fault};
 ghost use Rattle.spec_rules.specs.Admitted.{type_of_role, HasNoFault};
-ghost use Rattle.spec_report.specs.Report.{kept};
+ghost use Rattle.spec_rules.specs.Samples.{kept};
 ghost use Rattle.obu_data.specs.ShapeView.{MayDefine};
 ghost use Rattle.obu_data.specs.DefinitionView.{view_definition};
 ghost use Rattle.iamf_rules.specs.RoleView.{view_role, CanDefine};

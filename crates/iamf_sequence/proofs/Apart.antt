@@ -12,7 +12,7 @@ use Rattle.spec_rules.proofs.NoFault.{frame_none}
 use Rattle.spec_sequence.proofs.Roles.{roles_of_values}
 use Rattle.spec_rules.proofs.UnitLists.{streams_in-push}
 use Rattle.spec_rules.proofs.DistinctIds.{apart_push}
-use Rattle.iamf_rules.proofs.Lawful.{by_all}
+use Rattle.spec_rules.proofs.Lawful.{by_all}
 use Rattle.iamf_sequence.proofs.Whole.{streams_are}
 
 abbrev AreApart : List Role → Type 0

@@ -13,7 +13,7 @@ use Rattle.spec_rules.proofs.DescriptorLists.{substreams-more}
 use Rattle.spec_rules.proofs.NoFault.{frame_none, last_none}
 use Rattle.spec_rules.proofs.UnitLists.{streams_in-push, streams_in-none, complete_is}
 use Rattle.spec_rules.specs.Admitted.{IsAdmitted}
-use Rattle.iamf_rules.proofs.Lawful.{lawful, by_all}
+use Rattle.spec_rules.proofs.Lawful.{lawful, by_all}
 use Rattle.spec_rules.proofs.DistinctIds.{all_at}
 
 -- ---- frames are of known substreams

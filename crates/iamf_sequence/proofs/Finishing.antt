@@ -23,7 +23,7 @@ use Rattle.spec_sequence.specs.Parts.{header_in, codec_in, element_in, mix_in, s
 use Rattle.spec_sequence.specs.Reading.{Entry, values_of, roles}
 use Rattle.spec_sequence.proofs.Roles.{roles_of_values}
 use Rattle.spec_sequence.proofs.RolesOfParts.{profiles_are, codecs_are}
-use Rattle.iamf_rules.proofs.Lawful.{start_none, lawful}
+use Rattle.spec_rules.proofs.Lawful.{start_none, lawful}
 use Rattle.obu_descriptors.specs.ElementView.{view_element}
 use Rattle.obu_descriptors.specs.declared.audio_element.AudioElement.{AudioElement}
 use Rattle.obu_mix.specs.MixView.{view_mix}

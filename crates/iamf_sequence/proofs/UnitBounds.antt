@@ -10,7 +10,7 @@ use Rattle.spec_rules.specs.Admitted.{IsAdmitted}
 use Rattle.spec_rules.proofs.Placing.{is_delimited-kept, is_delimited-none, delimiters-push, unit_after-other, unit_after-delimiter, unit_count-push, unit_count-none}
 use Rattle.spec_rules.proofs.NoFault.{delimiter_none}
 use Rattle.spec_rules.proofs.OpenUnits.{is_delimited-quiet, delimiters-none, open_unit-ended}
-use Rattle.iamf_rules.proofs.Lawful.{lawful}
+use Rattle.spec_rules.proofs.Lawful.{lawful}
 
 -- ---- with delimiters, the units are as many as these
 

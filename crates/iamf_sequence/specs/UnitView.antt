@@ -4,7 +4,7 @@ use Rattle.std.specs.Borrow.{Bor}
 use Rattle.std.specs.List.{All}
 use Rattle.spec_obu.specs.declared.trim.Trim.{Trim}
 use Rattle.spec_rules.specs.Units.{are_apart}
-use Rattle.spec_sequence.specs.Parts.{FrameValue, BlockValue, UnitValue}
+use Rattle.spec_sequence.specs.Parts.{FrameValue, BlockValue, UnitValue, first_trim}
 use Rattle.obu_data.specs.BlockView.{view_block, bytes_after, IsOpaque}
 use Rattle.obu_data.specs.declared.frame.FrameView.{FrameView}
 use Rattle.obu_data.specs.declared.parameter_block.ParameterBlock.{ParameterBlock}
@@ -19,11 +19,6 @@ view_block_value b = record { fields = view_block b; tail = bytes_after b }
 -- all bytes of a block of no known parameter are in its content
 abbrev pub HasNoOpaqueTail : ParameterBlock → Type 0
 HasNoOpaqueTail b = IsOpaque b.content → b.tail.now ≡ []
-
--- the trims of the first frame, 0 and 0 before it
-abbrev pub first_trim : List FrameValue → Trim
-first_trim [] = record { end = 0; start = 0 }
-first_trim (f ∷ fs) = f.trim
 
 -- ---- while it is read: its frames in the order in which they stand
 

@@ -6,7 +6,7 @@ ghost use Rattle.spec_rules.specs.Descriptors.{substreams};
 ghost use Rattle.spec_rules.specs.Descriptors as descriptors;
 ghost use Rattle.spec_sequence.specs.Parts.{UnitValue, header_in, codec_in, element_in, mix_in, sequence_headers, codec_configs, audio_elements, mix_presentations, temporal_units};
 ghost use Rattle.spec_sequence.specs.Reading.{values_of, roles};
-ghost use Rattle.spec_report.specs.Report.{kept};
+ghost use Rattle.spec_rules.specs.Samples.{kept};
 ghost use Rattle.obu_descriptors.specs.HeaderView.{view_header};
 ghost use Rattle.obu_descriptors.specs.CodecView.{StandsForCodec};
 ghost use Rattle.obu_descriptors.specs.ElementView.{view_element};

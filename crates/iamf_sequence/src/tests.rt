@@ -1,7 +1,7 @@
 //! Each call on a sequence and its units, on one made input.
 
 use crate::{
-    DecodeError, Sequence, decode, encode, encode_obu, report, respell, summarize, summary,
+    DecodeError, Sequence, Unit, decode, encode, encode_obu, report, respell, summarize, summary,
 };
 use obu_descriptors::ElementConfig;
 use std::alloc::{AllocError, Global};
@@ -76,37 +76,30 @@ fn read<'a>(rt: &impl Abort, alloc: Global, bytes: &'a [u8]) -> Result<Sequence<
     Ok(decode(alloc, bytes)?)
 }
 
-#[test]
-fn obus_lie_one_after_the_other(rt: HostRuntime) -> Result<(), Fail> {
-    let bytes = whole(rt.alloc(), &PARTS)?;
-    let sequence = read(&rt, rt.alloc(), &bytes)?;
+/// The OBUs lie one after the other in so many bytes, and those of data are of their unit.
+fn assert_obus(rt: &impl Abort, sequence: &Sequence<'_>, size: usize) {
     assert_eq!(rt; sequence.count(), 11);
-    assert_eq!(rt; sequence.bytes(), bytes.as_slice());
     let mut at = 0;
     for i in 0..11 {
         let obu = sequence.obu(i);
         assert_eq!(rt; obu.at, at, "OBU {i}");
         at = obu.end;
+        let unit = if (6..10).contains(&i) { Some(0) } else { None };
+        assert_eq!(rt; sequence.unit_of(i), unit, "OBU {i}");
     }
-    assert_eq!(rt; at, bytes.len());
-    Ok(())
+    assert_eq!(rt; at, size);
+    assert_eq!(rt; sequence.bytes().len(), size);
+    assert_eq!(rt; sequence.kept(), 3);
 }
 
-#[test]
-fn the_header_and_the_codec_config_have_their_tails(rt: HostRuntime) -> Result<(), Fail> {
-    let bytes = whole(rt.alloc(), &PARTS)?;
-    let sequence = read(&rt, rt.alloc(), &bytes)?;
+fn assert_header_and_codec(rt: &impl Abort, sequence: &Sequence<'_>) {
     assert_eq!(rt; sequence.header().primary, 1);
     assert_eq!(rt; sequence.header().tail, b"\xaa".as_slice());
     assert_eq!(rt; sequence.codec().frame_length, 8);
     assert_eq!(rt; sequence.codec().tail, b"\xab".as_slice());
-    Ok(())
 }
 
-#[test]
-fn elements_come_in_their_order(rt: HostRuntime) -> Result<(), Fail> {
-    let bytes = whole(rt.alloc(), &PARTS)?;
-    let sequence = read(&rt, rt.alloc(), &bytes)?;
+fn assert_elements(rt: &impl Abort, sequence: &Sequence<'_>) {
     assert_eq!(rt; sequence.element_count(), 2);
     let first = sequence.element(0);
     let second = sequence.element(1);
@@ -114,13 +107,9 @@ fn elements_come_in_their_order(rt: HostRuntime) -> Result<(), Fail> {
     assert_eq!(rt; first.tail, b"\xac".as_slice());
     assert_eq!(rt; second.id, 3);
     assert!(rt; matches!(second.config, ElementConfig::Other { .. }));
-    Ok(())
 }
 
-#[test]
-fn mixes_come_in_their_order(rt: HostRuntime) -> Result<(), Fail> {
-    let bytes = whole(rt.alloc(), &PARTS)?;
-    let sequence = read(&rt, rt.alloc(), &bytes)?;
+fn assert_mixes(rt: &impl Abort, sequence: &Sequence<'_>) {
     assert_eq!(rt; sequence.mix_count(), 2);
     let first = sequence.mix(0);
     let second = sequence.mix(1);
@@ -129,70 +118,63 @@ fn mixes_come_in_their_order(rt: HostRuntime) -> Result<(), Fail> {
     assert_eq!(rt; second.id, 4);
     assert_eq!(rt; second.sub_mixes.len(), 2);
     assert!(rt; second.tags.is_none());
-    Ok(())
 }
 
-#[test]
-fn data_obus_are_of_their_unit(rt: HostRuntime) -> Result<(), Fail> {
-    let bytes = whole(rt.alloc(), &PARTS)?;
-    let sequence = read(&rt, rt.alloc(), &bytes)?;
-    assert_eq!(rt; sequence.count(), 11);
-    for i in 0..11 {
-        let unit = if (6..10).contains(&i) { Some(0) } else { None };
-        assert_eq!(rt; sequence.unit_of(i), unit, "OBU {i}");
-    }
-    assert_eq!(rt; sequence.kept(), 3);
-    Ok(())
-}
-
-#[test]
-fn a_unit_finds_its_frames(rt: HostRuntime) -> Result<(), Fail> {
-    let bytes = whole(rt.alloc(), &PARTS)?;
-    let sequence = read(&rt, rt.alloc(), &bytes)?;
-    assert_eq!(rt; sequence.unit_count(), 1);
-    let unit = sequence.unit(0);
+fn assert_unit(rt: &impl Abort, unit: &Unit<'_>) {
     assert_eq!(rt; unit.trim().start, 5);
     for (substream, size) in [(0, Some(32)), (7, Some(3)), (1, None)] {
         let found = unit.frame(substream).map(|frame| frame.bytes.len());
         assert_eq!(rt; found, size, "substream {substream}");
     }
-    Ok(())
-}
-
-#[test]
-fn blocks_have_their_definitions(rt: HostRuntime) -> Result<(), Fail> {
-    let bytes = whole(rt.alloc(), &PARTS)?;
-    let sequence = read(&rt, rt.alloc(), &bytes)?;
-    assert_eq!(rt; sequence.unit_count(), 1);
-    let unit = sequence.unit(0);
     assert_eq!(rt; unit.block_count(), 1);
     assert_eq!(rt; unit.block(0).id, 100);
+}
+
+fn assert_units(rt: &impl Abort, sequence: &Sequence<'_>) {
+    assert_eq!(rt; sequence.unit_count(), 1);
+    assert_unit(rt, sequence.unit(0));
     assert!(rt; sequence.definitions().find(100).is_some());
     assert!(rt; sequence.definitions().find(7).is_none());
-    Ok(())
 }
 
 #[test]
-fn a_sequence_is_written(rt: HostRuntime) -> Result<(), Fail> {
+fn a_sequence_has_its_parts(rt: HostRuntime) -> Result<(), Fail> {
     let bytes = whole(rt.alloc(), &PARTS)?;
     let sequence = read(&rt, rt.alloc(), &bytes)?;
-    assert_eq!(rt; encode(rt.alloc(), &sequence)?.as_slice(), bytes.as_slice());
+    assert_obus(&rt, &sequence, bytes.len());
+    assert_header_and_codec(&rt, &sequence);
+    assert_elements(&rt, &sequence);
+    assert_mixes(&rt, &sequence);
+    assert_units(&rt, &sequence);
+    Ok(())
+}
+
+/// The canonical spelling and the report of a sequence, and the spellings of its OBUs.
+fn assert_written(
+    rt: &impl Abort,
+    alloc: Global,
+    sequence: &Sequence<'_>,
+    bytes: &[u8],
+) -> Result<(), Fail> {
+    assert_eq!(rt; encode(alloc, sequence)?.as_slice(), bytes);
+    assert_eq!(rt;
+        report(alloc, &summary(alloc, sequence)?)?.as_slice(),
+        LINES
+    );
     assert_eq!(rt; sequence.count(), 11);
     for (i, part) in PARTS.iter().enumerate() {
         assert!(rt; i < 11);
-        let spelling = encode_obu(rt.alloc(), &sequence, i)?;
+        let spelling = encode_obu(alloc, sequence, i)?;
         assert_eq!(rt; spelling.as_slice(), *part, "OBU {i}");
     }
     Ok(())
 }
 
 #[test]
-fn a_sequence_is_reported(rt: HostRuntime) -> Result<(), Fail> {
+fn a_sequence_is_written_and_reported(rt: HostRuntime) -> Result<(), Fail> {
     let bytes = whole(rt.alloc(), &PARTS)?;
     let sequence = read(&rt, rt.alloc(), &bytes)?;
-    let kept = summary(rt.alloc(), &sequence)?;
-    assert_eq!(rt; report(rt.alloc(), &kept)?.as_slice(), LINES);
-    Ok(())
+    assert_written(&rt, rt.alloc(), &sequence, &bytes)
 }
 
 #[test]

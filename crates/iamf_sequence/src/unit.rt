@@ -20,7 +20,8 @@ pub struct Unit<'a> {
 }
 
 impl<'a> Unit<'a> {
-    ghost use Rattle.iamf_sequence.specs.UnitView.{view_block_value, view_unit, HasNoOpaqueTail, IsConsistent, with_frame, with_block, IsUnit, first_trim};
+    ghost use Rattle.iamf_sequence.specs.UnitView.{view_block_value, view_unit, HasNoOpaqueTail, IsConsistent, with_frame, with_block, IsUnit};
+    ghost use Rattle.spec_sequence.specs.Parts.{first_trim};
 
     /// A unit of nothing.
     pub(crate) fn new(alloc: Global) -> Unit<'a>

@@ -14,7 +14,7 @@ use Rattle.iamf_tool.specs.Outcome.{SequenceGives}
 use Rattle.iamf_tool.specs.Status.{status_of, status_line}
 use Rattle.iamf_tool.specs.Ends.{Ran, IsUntouched, Noted, Ends}
 use Rattle.iamf_tool.specs.Checks.{Tells, LeavesOff}
-use Rattle.iamf_tool.proofs.Refused.{AnswersTo}
+use Rattle.iamf_tool.proofs.Refused.{AnswersTo, refusal_gives}
 
 pub reported : {E : Type 0} (r : Result Answer E) (answer : Result Facts DecodeError) (bytes : List ℕ)
     → IfOk r (λ a. (b : List ℕ) → Tells answer b → SequenceGives report b (view_answer a)) → Tells answer bytes → IfOk r (λ a. SequenceGives report bytes (view_answer a))
@@ -23,7 +23,7 @@ reported (Err e) answer bytes every tells = tt
 
 pub refused : {E : Type 0} (r : Result Answer E) (answer : Result Facts DecodeError) (error : DecodeError) → answer ≡ Err error → IfOk r (AnswersTo error)
     → IfOk r (λ a. (bytes : List ℕ) → Tells answer bytes → SequenceGives report bytes (view_answer a))
-refused (Ok a) answer error is every = λ bytes tells. every report bytes (rw is at tells)
+refused (Ok a) answer error is every = λ bytes tells. refusal_gives report bytes a (every bytes (rw is at tells))
 refused (Err e) answer error is every = tt
 
 ended : (error : ReadError) (c : Command) (r : Ran) → LeavesOff error r.source → IsUntouched r.out → Noted r.notes (status_line (status_of error)) → Ends (status_of error) c r

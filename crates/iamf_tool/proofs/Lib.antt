@@ -5,3 +5,6 @@ pub mod Lines
 pub mod Listed
 pub mod Complete
 pub mod Refused
+pub mod Decimals
+pub mod Pieces
+pub mod Played

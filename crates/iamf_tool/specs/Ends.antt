@@ -1,14 +1,15 @@
 -- How a run of the program leaves its three ends.
-use Rattle.std.specs.Prelude.{◌≡◌, ℕ, ◌+◌, ◌^◌, ◌≤◌, ◌⊎◌, List, [], ◌∷◌, ◌++◌, length, codes, Option, Some, None}
+use Rattle.std.specs.Prelude.{◌≡◌, ℕ, ◌+◌, ◌^◌, ◌≤◌, ◌⊎◌, List, [], ◌∷◌, ◌++◌, length, codes, Option, Some, None, Result, Ok, Err}
 use Rattle.std.specs.Fmt.{decimal}
 use Rattle.std.specs.Io.KnownBytes.{Appends, Consumes, Keeps, IsAtEnd}
+use Rattle.iamf_io.specs.declared.traits.Failed.{Failed}
 use Rattle.iamf_io.specs.Causes.{Rose}
 use Rattle.iamf_io.specs.Whole.{AppendsFront, TakesCount}
 use Rattle.iamf_tool.specs.declared.command.Command.{Command}
 use Rattle.iamf_tool.specs.declared.status.Status.{Status}
 use Rattle.iamf_tool.specs.declared.status.Status.TheVariants.{Done, Refused, Usage, Memory, ReadFault, WriteFault, TooLarge}
 use Rattle.iamf_tool.specs.Status.{status_line}
-use Rattle.iamf_tool.specs.Outcome.{Output, Refusal, Outcome}
+use Rattle.iamf_tool.specs.Outcome.{Output, Refusal, Unplayable, Outcome}
 
 -- what a source has left or a sink holds, where it tells, and its count of faults, before a call and after it
 pub record Side : Type 0 where
@@ -43,6 +44,11 @@ pub record WroteFront (s : Side) (text : List ℕ) : Type 0 where
   pub grown : AppendsFront s.before s.after text
   pub rose : Rose s.count_before s.count_after
 
+-- how the writing of a text ended
+abbrev pub Writes : Result (Unit {0}) Failed → List ℕ → Side → Type 0
+Writes (Ok _) text s = Wrote s text
+Writes (Err _) text s = WroteFront s text
+
 -- the line was written, or a front of it where the sink failed
 abbrev pub Noted : Side → List ℕ → Type 0
 Noted s text = Wrote s text ⊎ WroteFront s text
@@ -50,6 +56,10 @@ Noted s text = Wrote s text ⊎ WroteFront s text
 -- `refused AT CODE`
 abbrev pub refusal_line : ℕ → ℕ → List ℕ
 refusal_line at code = codes "refused " ++ decimal at ++ 32 ∷ decimal code ++ 10 ∷ []
+
+-- `unplayable CODE`
+abbrev pub unplayable_line : ℕ → List ℕ
+unplayable_line code = codes "unplayable " ++ decimal code ++ 10 ∷ []
 
 -- ---- after the whole input was read
 
@@ -63,15 +73,15 @@ Delivers Memory output out notes = ⊥
 Delivers ReadFault output out notes = ⊥
 Delivers TooLarge output out notes = ⊥
 
--- how a refusal ends
-abbrev pub Refuses : Status → ℕ → ℕ → Side → Type 0
-Refuses Refused place code notes = Noted notes (refusal_line place code)
-Refuses Memory place code notes = Noted notes (status_line Memory)
-Refuses Done place code notes = ⊥
-Refuses Usage place code notes = ⊥
-Refuses ReadFault place code notes = ⊥
-Refuses WriteFault place code notes = ⊥
-Refuses TooLarge place code notes = ⊥
+-- how a refusal with this line ends
+abbrev pub Refuses : Status → List ℕ → Side → Type 0
+Refuses Refused line notes = Noted notes line
+Refuses Memory line notes = Noted notes (status_line Memory)
+Refuses Done line notes = ⊥
+Refuses Usage line notes = ⊥
+Refuses ReadFault line notes = ⊥
+Refuses WriteFault line notes = ⊥
+Refuses TooLarge line notes = ⊥
 
 -- the output of the command stands on `out`
 pub record IsDone (c : Command) (b : List ℕ) (out notes : Side) : Type 0 where
@@ -88,6 +98,17 @@ pub record IsRefused (c : Command) (b : List ℕ) (out notes : Side) : Type 0 wh
   pub untouched : IsUntouched out
   pub noted : Noted notes (refusal_line place code)
 
+-- the mix is not played, and nothing is written
+pub record IsUnplayed (c : Command) (b : List ℕ) (out notes : Side) : Type 0 where
+  pub code : ℕ
+  pub gives : Outcome c b (Unplayable code)
+  pub untouched : IsUntouched out
+  pub noted : Noted notes (unplayable_line code)
+
+-- the input is refused, or its mix
+abbrev pub IsTurnedDown : Command → List ℕ → Side → Side → Type 0
+IsTurnedDown c b out notes = IsRefused c b out notes ⊎ IsUnplayed c b out notes
+
 -- `out` failed while the output was written, or when it was flushed
 pub record IsCutOff (c : Command) (b : List ℕ) (out notes : Side) : Type 0 where
   pub output : List ℕ
@@ -103,7 +124,7 @@ pub record IsNoted (status : Status) (out notes : Side) : Type 0 where
 -- how the command ends on these bytes
 abbrev pub Concludes : Status → Command → List ℕ → Side → Side → Type 0
 Concludes Done c b out notes = IsDone c b out notes
-Concludes Refused c b out notes = IsRefused c b out notes
+Concludes Refused c b out notes = IsTurnedDown c b out notes
 Concludes Memory c b out notes = IsNoted Memory out notes
 Concludes WriteFault c b out notes = IsCutOff c b out notes
 Concludes Usage c b out notes = ⊥
@@ -141,7 +162,7 @@ pub record RanOut (r : Ran) : Type 0 where
 -- how a run on a command ends
 abbrev pub Ends : Status → Command → Ran → Type 0
 Ends Done c r = WasRead r.source (λ b. IsDone c b r.out r.notes)
-Ends Refused c r = WasRead r.source (λ b. IsRefused c b r.out r.notes)
+Ends Refused c r = WasRead r.source (λ b. IsTurnedDown c b r.out r.notes)
 Ends WriteFault c r = WasRead r.source (λ b. IsCutOff c b r.out r.notes)
 Ends Memory c r = RanOut r
 Ends ReadFault c r = ReadFailed r

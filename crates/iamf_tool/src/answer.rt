@@ -1,8 +1,6 @@
 ghost use Rattle.std.specs.Prelude.{ℕ, List, IfOk};
-ghost use Rattle.spec_values.specs.Value.{ObuValue};
 ghost use Rattle.iamf_sequence.specs.Places.{IsRefused};
-ghost use Rattle.iamf_tool.specs.Outcome.{SequenceGives};
-ghost use Rattle.iamf_tool.specs.Answers.{view_answer};
+ghost use Rattle.iamf_tool.specs.Answers.{IsRefusalOf};
 
 use iamf_sequence::DecodeError;
 use std::alloc::AllocError;
@@ -14,11 +12,13 @@ pub enum Answer {
     Output(Vec<u8>),
     /// The place and the number of the first fault.
     Refusal { at: u64, code: u32 },
+    /// The number of the first rule for which a mix is not played.
+    Unplayable { code: u32 },
 }
 
 /// The answer to bytes that are no sequence. An `Err` says that there is no memory.
 pub fn answer_to(error: DecodeError) -> Result<Answer, AllocError>
-    ensures { IfOk result (λ a. (made : List ObuValue → List ℕ) (bytes : List ℕ) → IsRefused bytes error → SequenceGives made bytes (view_answer a)) }
+    ensures { IfOk result (λ a. (bytes : List ℕ) → IsRefused bytes error → IsRefusalOf bytes a) }
 {
     match error {
         DecodeError::Refused(refusal) => Ok(Answer::Refusal {

@@ -6,7 +6,7 @@ ghost use Rattle.iamf_tool.specs.Answers.{view_answer};
 ghost use Rattle.iamf_tool.specs.Ends.{side, Delivers, Concludes};
 
 use crate::answer::Answer;
-use crate::notes::{ended, refuse};
+use crate::notes::{ended, refuse, refuse_to_play};
 use crate::status::Status;
 use iamf_io::{Sink, write_all};
 use std::alloc::{AllocError, Global};
@@ -39,6 +39,7 @@ pub fn conclude<W: Sink, N: Sink>(
     match answer {
         Ok(Answer::Output(output)) => deliver(&output, out, notes),
         Ok(Answer::Refusal { at, code }) => refuse(alloc, at, code, notes),
+        Ok(Answer::Unplayable { code }) => refuse_to_play(alloc, code, notes),
         Err(_) => ended(Status::Memory, notes),
     }
 }

@@ -1,8 +1,9 @@
 //! Lists, checks and canonically writes IAMF sequences (AOMedia Immersive Audio Model and Formats 1.0.0), writes them into
-//! MP4 files and reads them out of such files.
+//! MP4 files and reads them out of such files, and plays their mixes into WAV files.
 #![tactic(auto)]
 
 mod answer;
+mod arguments;
 mod canon;
 mod checking;
 mod command;
@@ -10,6 +11,7 @@ mod ending;
 mod listing;
 mod muxing;
 mod notes;
+mod playing;
 mod run;
 mod status;
 #[cfg(test)]

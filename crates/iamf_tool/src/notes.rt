@@ -1,6 +1,6 @@
 ghost use Rattle.std.specs.Prelude.{◌≡◌, ◌++◌, IfOk};
 ghost use Rattle.iamf_tool.specs.Status.{status_of, status_line};
-ghost use Rattle.iamf_tool.specs.Ends.{side, Noted, Refuses, refusal_line};
+ghost use Rattle.iamf_tool.specs.Ends.{side, Noted, Refuses, refusal_line, unplayable_line};
 
 use crate::status::Status;
 use iamf_io::{ReadError, Sink, write_all};
@@ -51,11 +51,35 @@ fn refusal(alloc: Global, at: u64, code: u32) -> Result<Vec<u8>, AllocError>
     Ok(line)
 }
 
+// The line of a mix that is not played.
+fn unplayable(alloc: Global, code: u32) -> Result<Vec<u8>, AllocError>
+    ensures { IfOk result (λ line. line.items ≡ unplayable_line code) }
+{
+    let mut digits = Buffer::new();
+    let mut line = Vec::from_slice(alloc, b"unplayable ")?;
+    line.extend_from_slice(digits.format(code).as_bytes())?;
+    line.push(b'\n')?;
+    Ok(line)
+}
+
 /// Notes the place and the number of a refusal.
 pub fn refuse<N: Sink>(alloc: Global, at: u64, code: u32, notes: &mut N) -> Status
-    ensures { Refuses result at code (side N.held N.faults notes.old notes.new) }
+    ensures { Refuses result (refusal_line at code) (side N.held N.faults notes.old notes.new) }
 {
     match refusal(alloc, at, code) {
+        Ok(line) => {
+            note(notes, &line);
+            Status::Refused
+        }
+        Err(_) => ended(Status::Memory, notes),
+    }
+}
+
+/// Notes the number of the rule for which a mix is not played.
+pub fn refuse_to_play<N: Sink>(alloc: Global, code: u32, notes: &mut N) -> Status
+    ensures { Refuses result (unplayable_line code) (side N.held N.faults notes.old notes.new) }
+{
+    match unplayable(alloc, code) {
         Ok(line) => {
             note(notes, &line);
             Status::Refused

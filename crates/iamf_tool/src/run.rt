@@ -1,10 +1,11 @@
-ghost use Rattle.iamf_tool.specs.Words.{command_of};
+ghost use Rattle.iamf_tool.specs.Words.{command_of, IsHearableCommand};
 ghost use Rattle.iamf_tool.specs.Ends.{side, ran, Ends, Runs};
 ghost use Rattle.iamf_tool.specs.Complete.{Completes};
 
 use crate::checking::check;
 use crate::command::{Command, read_words};
 use crate::notes::ended;
+use crate::playing::play;
 use crate::status::Status;
 use crate::whole::whole;
 use iamf_io::{Sink, Source};
@@ -18,12 +19,14 @@ fn job<R: Source, W: Sink, N: Sink>(
     out: &mut W,
     notes: &mut N,
 ) -> Status
+    requires { IsHearableCommand command }
     ensures { Ends result command (ran (side R.left R.faults source.old source.new)
         (side W.held W.faults out.old out.new) (side N.held N.faults notes.old notes.new)) }
 {
     match command {
         Command::Check => check(alloc, source, out, notes),
         Command::Convert(conversion) => whole(alloc, conversion, source, out, notes),
+        Command::Play { mix, target } => play(alloc, mix, target, source, out, notes),
     }
 }
 
@@ -33,7 +36,7 @@ fn job<R: Source, W: Sink, N: Sink>(
 /// The status says how it ended, and the clauses what then stands on `source`, `out` and `notes`:
 ///
 /// - `Done`: the whole input was read, and `out` has grown by the output that the command gives for it.
-/// - `Refused`: the whole input was read and is refused; `notes` has the line of the refusal.
+/// - `Refused`: the whole input was read and is refused, or its mix is not played; `notes` has the line of the refusal.
 /// - `Usage` exactly where the words are no command; nothing is read.
 /// - `Memory` where there is no memory; `out` is unchanged.
 /// - `ReadFault` only where the source's count of faults rose in this call; `out` is unchanged.

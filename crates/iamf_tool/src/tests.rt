@@ -2,7 +2,10 @@ mod case;
 mod files;
 mod parts;
 mod refusals;
+mod selections;
 mod sequences;
+mod wave_parts;
+mod waves;
 
 ghost use Rattle.std.specs.Prelude.{None};
 

@@ -1,5 +1,5 @@
 -- The layers that a kernel keeps.
-use Rattle.std.proofs.Common.{arith, ◌≡◌, ◌<◌, ◌≤◌, ℕ, zero, suc, ◌+◌, ◌-◌, List, [], ◌∷◌, ◌++◌, length, map, take, get_or, refl, ◌∙◌, ap}
+use Rattle.std.proofs.Common.{arith, ◌≡◌, ◌<◌, ◌≤◌, ℕ, zero, suc, ◌+◌, List, [], ◌∷◌, ◌++◌, length, map, take, get_or, refl, ◌∙◌, ap}
 use Rattle.std.proofs.Math.Seq.{take-suc}
 use Rattle.std.proofs.lemmas.List.{length-map, length-take-le, get_or-take, get_or-map}
 use Rattle.spec_layouts.specs.declared.Layout.{Layout}
@@ -7,9 +7,7 @@ use Rattle.spec_layouts.specs.Layouts.{channels}
 use Rattle.spec_layouts.specs.Steps.{IsChain}
 use Rattle.spec_layouts.proofs.Chains.{short_chain}
 use Rattle.spec_demix.specs.declared.DemixLayer.{DemixLayer}
-use Rattle.spec_demix.specs.declared.SentBed.{SentBed}
-use Rattle.spec_demix.specs.declared.Kind.{Kind}
-use Rattle.spec_demix.specs.Sent.{layer_at, kinds_of, place_after, next_sent, sent_at, IsLayers}
+use Rattle.spec_demix.specs.Sent.{layer_at, IsLayers}
 use Rattle.spec_demix.specs.Fits.{target_channels}
 use Rattle.spec_demix.specs.Sizes.{AreModest}
 use Rattle.spec_demix.specs.Elements.{demix_layer_of}
@@ -17,7 +15,9 @@ use Rattle.obu_descriptors.specs.declared.layer.Layer.{Layer}
 use Rattle.obu_descriptors.specs.LayerView.{view_layer}
 use Rattle.demix_channels.specs.Gains.{HaveModestGains}
 use Rattle.demix_channels.proofs.SeenLayers.{seen, length-seen, modest_at}
-use Rattle.mix_fixed.specs.Kernel.{target_of, AreSent, IsKernel}
+use Rattle.mix_fixed.specs.Kernel.{target_of, IsKernel}
+use Rattle.mix_fixed.specs.declared.origins.Origins.{Origins}
+use Rattle.mix_fixed.specs.Origins.{origins_of}
 
 -- ---- a chain has at most six layers
 
@@ -56,9 +56,9 @@ kept_chain layers target chain = record {
 kept_modest : (layers : List Layer) (target : ℕ) → HaveModestGains layers target → AreModest (take (target + 1) (seen layers)) target
 kept_modest layers target m j h = rw (layer_at-take (seen layers) (target + 1) j (omega arith)) (modest_at layers j (m j h))
 
-pub kernel_is : (layers : List Layer) (target : ℕ) (sent : List SentBed) → target < length layers → IsLayers (seen layers) target → HaveModestGains layers target → AreSent (take (target + 1) (seen layers)) sent
-    → IsKernel (target + 1) (take (target + 1) (seen layers)) sent
-kernel_is layers target sent h chain modest s =
+pub kernel_is : (layers : List Layer) (target : ℕ) (origins : Origins) → target < length layers → IsLayers (seen layers) target → HaveModestGains layers target → origins ≡ origins_of (take (target + 1) (seen layers)) (target_of (take (target + 1) (seen layers)))
+    → IsKernel (target + 1) (take (target + 1) (seen layers)) origins
+kernel_is layers target origins h chain modest k =
     let long = length-seen layers in
     let e : target_of (take (target + 1) (seen layers)) ≡ target = target_of-take (seen layers) target (omega arith) in
     let l = length-take-le (target + 1) (seen layers) (omega arith) in
@@ -68,7 +68,7 @@ kernel_is layers target sent h chain modest s =
       all = omega (arith, l);
       chain = rw e (kept_chain (seen layers) target chain);
       modest = rw e (kept_modest layers target modest);
-      kept = s;
+      kept = k;
     }
 
 -- one layer more
@@ -88,8 +88,3 @@ target_kept layers target h =
     let long = length-seen layers in
     let e : target_of (take (target + 1) (seen layers)) ≡ target = target_of-take (seen layers) target (omega arith) in
     rw e (ap (λ (layer : DemixLayer). channels layer.layout) (layer_at-take (seen layers) (target + 1) target (omega arith)))
-
--- what a layer after the first transmits, from the layer before it
-pub sent_after : (layers : List DemixLayer) (i : ℕ) (before : Kind) (at : ℕ) → 0 < i → before ≡ kinds_of layers (i - 1) → at ≡ place_after layers (i - 1) → next_sent before (layer_at layers i) at ≡ sent_at layers i
-sent_after layers zero before at h b a = absurd (omega arith)
-sent_after layers (suc i) before at h b a = let e : suc i - 1 ≡ i = omega arith in rw (b, a, e) refl

@@ -1,5 +1,8 @@
 pub mod FloorSizes
+pub mod SampleSizes
+pub mod UnitsInTwo
 pub mod StepLemmas
-pub mod WalkLemmas
+pub mod AtOnce
+pub mod KeptOrigins
 pub mod Rows
 pub mod KeptLayers

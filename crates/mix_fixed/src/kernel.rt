@@ -11,13 +11,14 @@ ghost use Rattle.spec_demix.specs.Sizes.{AreSamples, IsNear};
 ghost use Rattle.spec_demix.specs.Elements.{demix_layers_of};
 ghost use Rattle.obu_descriptors.specs.LayerView.{view_layer};
 ghost use Rattle.demix_channels.specs.Gains.{HaveModestGains};
-ghost use Rattle.mix_fixed.specs.Kernel.{AreSent, target_of};
+ghost use Rattle.mix_fixed.specs.Kernel.{target_of};
 
-use crate::walk::{gather, walk};
-use demix_channels::{DemixParams, demix_layer, kind, sent_first, sent_next};
-use iamf_tables::channel_count;
+use crate::gathering::gather;
+use crate::origins::{Origins, origins_of};
+use crate::steps::bed;
+use demix_channels::{DemixParams, demix_layer};
 use obu_descriptors::Layer;
-use spec_demix::{DemixLayer, SentBed};
+use spec_demix::DemixLayer;
 use spec_layouts::Layout;
 use std::marker::Model;
 
@@ -25,9 +26,8 @@ use std::marker::Model;
 #[derive(Drop)]
 pub struct Kernel {
     layers: [DemixLayer; 6],
-    /// What each of them transmits.
-    sent: [SentBed; 6],
     count: usize,
+    origins: Origins,
 }
 
 impl Model for Kernel {
@@ -39,21 +39,7 @@ impl Model for Kernel {
 
     ghost view = { λ kernel. take kernel.count kernel.layers };
 
-    ghost invariant = { λ kernel. IsKernel kernel.count (take kernel.count kernel.layers) kernel.sent };
-}
-
-/// What each of some layers transmits, of which the first is an element's first.
-fn sent_by_each(layers: &[DemixLayer]) -> [SentBed; 6]
-    requires some { 0 < length layers.now }
-    requires few { length layers.now ≤ 6 }
-    ensures { AreSent layers.now result }
-{
-    let mut sent = [sent_first(layers[0]); 6];
-    for i in 1..layers.len() {
-        let old = layers[i - 1].layout;
-        sent[i] = sent_next(kind(old), layers[i], channel_count(old));
-    }
-    sent
+    ghost invariant = { λ kernel. IsKernel kernel.count (take kernel.count kernel.layers) kernel.origins };
 }
 
 impl Kernel {
@@ -75,11 +61,11 @@ impl Kernel {
         for i in 0..target + 1 {
             kept[i] = demix_layer(&layers[i]);
         }
-        let sent = sent_by_each(&kept[..target + 1]);
+        let origins = origins_of(&kept[..target + 1]);
         Kernel {
             layers: kept,
-            sent,
             count: target + 1,
+            origins,
         }
     }
 
@@ -99,7 +85,7 @@ impl Kernel {
         ensures small { All (λ channel. unsigned_abs channel < 2 ^ 39 * 2 ^ 28) out.new }
     {
         let layers = &self.layers[..self.count];
-        let bed = walk(layers, &self.sent, params, coded);
+        let bed = bed(&self.origins, params, coded);
         gather(layers[layers.len() - 1].layout, &bed, out);
     }
 }

@@ -3,13 +3,12 @@
 #![tactic(auto)]
 
 mod floors;
+mod gathering;
 mod kernel;
+mod origins;
 mod output;
 mod samples;
 mod steps;
-#[cfg(test)]
-mod tests;
-mod walk;
 
 pub use demix_channels::DemixParams;
 pub use kernel::Kernel;

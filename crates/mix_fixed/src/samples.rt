@@ -1,16 +1,48 @@
-//! What a layer transmits, in units of 1/2^28.
+//! Coded samples in units of 1/2^28.
 
 ghost use Rattle.std.specs.Prelude.{◌≡◌, ◌*◌, ◌^◌, ◌<◌, ◌≤◌, pos, ◌*ℤ◌, unsigned_abs, length};
-ghost use Rattle.spec_demix.specs.FixedWalk.{units_of, side_units, tops_units, bed_units};
-ghost use Rattle.spec_demix.specs.Sent.{sample_of, side_of, tops_of, bed_of};
+ghost use Rattle.spec_demix.specs.FixedWalk.{units_of};
+ghost use Rattle.spec_demix.specs.Sent.{sample_of};
 ghost use Rattle.spec_demix.specs.Sizes.{AreSamples};
 ghost use Rattle.mix_fixed.specs.Within.{AtMost};
-ghost use Rattle.demix_channels.specs.Room.{IsSentWithin, AreSidesWithin, AreTopsWithin, AreWithin};
+ghost use Rattle.demix_channels.specs.Room.{IsSentWithin};
 
-use spec_demix::{Bed, Sent, SentBed, SentSide, SentTops, Side, Tops};
+use spec_demix::Sent;
 
 /// What a sample is multiplied by where no output gain acts on it.
 const ONE: u64 = 1_000_000_000_000;
+
+/// The units of a number of parts of 10^12: 2^28 / 10^12 is 2^16 / 5^12.
+#[inline]
+fn short_units(parts: i64) -> i128
+    ensures { result ≡ units_of parts }
+{
+    let whole = parts.div_euclid(1_000_000_000_000);
+    let rest = parts.rem_euclid(1_000_000_000_000);
+    i128::from(whole * 0x1000_0000 + (rest * 0x1_0000).div_euclid(244_140_625))
+}
+
+/// The same of a number that may have more than 64 bits.
+fn units(parts: i128) -> i128
+    requires { unsigned_abs parts < 2 ^ 78 }
+    ensures { result ≡ units_of parts }
+{
+    match i64::try_from(parts) {
+        Ok(parts) => short_units(parts),
+        Err(_) => (parts * 0x1000_0000).div_euclid(1_000_000_000_000),
+    }
+}
+
+/// A coded sample times a factor, in parts of 10^12.
+#[inline]
+fn parts(y: i64, factor: u64) -> i128
+    requires y { unsigned_abs y ≤ 2 ^ 31 }
+    requires factor { factor ≤ 39810717055340 }
+    ensures value { result ≡ y *ℤ pos factor }
+    ensures small { unsigned_abs result < 2 ^ 78 }
+{
+    i128::from(y) * i128::from(factor)
+}
 
 /// A coded sample times a factor in parts of 10^12, in units.
 #[inline]
@@ -22,13 +54,13 @@ fn scaled(y: i64, factor: u64) -> i128
     if factor == ONE {
         i128::from(y * 0x1000_0000)
     } else {
-        (i128::from(y) * i128::from(factor) * 0x1000_0000).div_euclid(ONE as i128)
+        units(parts(y, factor))
     }
 }
 
 /// A channel that a layer transmits; 0 where it does not.
 #[inline]
-#[tactic(auto, using(crate::proofs::WalkLemmas::sample_most))]
+#[tactic(auto, using(crate::proofs::SampleSizes::sample_most))]
 pub(crate) fn sample(sent: Sent, coded: &[i64]) -> i128
     requires within { IsSentWithin (length coded.now) sent }
     requires samples { AreSamples coded.now }
@@ -39,50 +71,5 @@ pub(crate) fn sample(sent: Sent, coded: &[i64]) -> i128
         0
     } else {
         scaled(coded[sent.place], sent.factor)
-    }
-}
-
-fn side(sent: &SentSide, coded: &[i64]) -> Side
-    requires within { AreSidesWithin (length coded.now) sent.now }
-    requires samples { AreSamples coded.now }
-    ensures { result ≡ side_units (side_of coded.now sent.now) }
-{
-    Side {
-        two: sample(sent.two, coded),
-        three: sample(sent.three, coded),
-        five: sample(sent.five, coded),
-        surround: sample(sent.surround, coded),
-        side: sample(sent.side, coded),
-        rear: sample(sent.rear, coded),
-    }
-}
-
-fn tops(sent: &SentTops, coded: &[i64]) -> Tops
-    requires within { AreTopsWithin (length coded.now) sent.now }
-    requires samples { AreSamples coded.now }
-    ensures { result ≡ tops_units (tops_of coded.now sent.now) }
-{
-    Tops {
-        three: sample(sent.three, coded),
-        two: sample(sent.two, coded),
-        four: sample(sent.four, coded),
-        back: sample(sent.back, coded),
-    }
-}
-
-/// All channels that a layer transmits.
-pub(crate) fn bed(sent: &SentBed, coded: &[i64]) -> Bed
-    requires within { AreWithin (length coded.now) sent.now }
-    requires samples { AreSamples coded.now }
-    ensures { result ≡ bed_units (bed_of coded.now sent.now) }
-{
-    Bed {
-        mono: sample(sent.mono, coded),
-        center: sample(sent.center, coded),
-        low: sample(sent.low, coded),
-        left: side(&sent.left, coded),
-        right: side(&sent.right, coded),
-        left_top: tops(&sent.left_top, coded),
-        right_top: tops(&sent.right_top, coded),
     }
 }

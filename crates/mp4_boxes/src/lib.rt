@@ -23,8 +23,6 @@ mod stsd;
 mod stsz;
 mod stts;
 mod tables;
-#[cfg(test)]
-mod tests;
 mod track;
 
 pub use audio::{audio_track, track_of};

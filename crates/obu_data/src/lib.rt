@@ -7,8 +7,6 @@ mod frame;
 mod gain_part;
 mod parameter_block;
 mod recon_part;
-#[cfg(test)]
-mod tests;
 
 pub use definition::{Definition, Shape};
 pub use definitions::{DefinitionError, Definitions};

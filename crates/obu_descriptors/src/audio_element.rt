@@ -1,8 +1,5 @@
 //! The audio element (IAMF 1.0.0, "Audio Element OBU Syntax and Semantics").
 
-#[cfg(test)]
-mod tests;
-
 ghost use Rattle.std.specs.Prelude.{◌≡◌, [], ◌<◌, ◌^◌, map, length, IfOk, ℕ, ◌++◌, OnOk};
 ghost use Rattle.spec_bits.specs.Cursor.{IsOnByte};
 ghost use Rattle.spec_syntax.specs.Syntax.{each};

@@ -12,8 +12,6 @@ mod parameter;
 mod reading_back;
 mod sequence_header;
 mod stream_info;
-#[cfg(test)]
-mod tests;
 mod timing;
 
 pub use audio_element::AudioElement;

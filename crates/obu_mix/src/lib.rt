@@ -8,8 +8,6 @@ mod mix_presentation;
 mod reading_back;
 mod sub_mix;
 mod tag;
-#[cfg(test)]
-mod tests;
 mod text;
 
 pub use loudness::{Anchor, LayoutLoudness};

@@ -11,9 +11,6 @@ use iamf_bits::{Out, View};
 use smallvec::SmallVec;
 use std::alloc::{AllocError, Global};
 
-#[cfg(test)]
-mod tests;
-
 /// A name and a value that a mix presentation is given.
 #[derive(Clone, Copy, Debug, Default, PartialEq, Eq)]
 pub struct Tag<'a> {

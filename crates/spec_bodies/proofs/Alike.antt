@@ -10,7 +10,7 @@ use Rattle.spec_rules.specs.Descriptors.{profile_of, codec_of, element_of, mix_o
 use Rattle.spec_rules.specs.Profile.{has_fit}
 use Rattle.spec_rules.specs.Units.{is_data, stream_of, trim_of, block_of, unit_after, placed, if_unit, in_units, in_unit, before_unit, streams_in, trims_in, trims_before, blocks_in, is_complete, duration_of, block_in, end_after, block_end}
 use Rattle.spec_rules.specs.Rules.{when, first_of, lacks_descriptors, has_bad_trim, is_late, fault_after}
-use Rattle.iamf_rules.proofs.Balance.{fit_in, fit_is}
+use Rattle.spec_rules.proofs.Balance.{fit_in, fit_is}
 use Rattle.spec_bodies.proofs.Filtered.{filtered, same_filtered, flat_flat}
 
 -- it is no reserved OBU, no redundant copy and no delimiter

@@ -10,7 +10,7 @@ use Rattle.spec_bodies.specs.Spelled.{Spelled, role_of, entries_of, roles_of}
 use Rattle.spec_bodies.specs.SequenceBody.{units, descriptors}
 use Rattle.spec_bodies.proofs.Alike.{counts}
 use Rattle.spec_bodies.proofs.SpelledRoles.{describes, carries, descriptor_is, data_is, typed_role}
-use Rattle.iamf_rules.proofs.Lawful.{lawful}
+use Rattle.spec_rules.proofs.Lawful.{lawful}
 use Rattle.spec_bodies.proofs.Rebuilt.{next_unit}
 use Rattle.spec_bodies.proofs.OneMore.{GrowsLast, units-quiet, descriptors-same}
 use Rattle.spec_bodies.proofs.Rebuilding.{Rebuilds, IsSpelled, Carries, carries_of, units_more, delimiter_here, delimiter_units, same_units, new_units}

@@ -20,7 +20,7 @@ use Rattle.spec_files.proofs.Delimiter.{delimiter, delimiter_is}
 use Rattle.spec_bodies.specs.Spelled.{Spelled, entry_of, obu_of, role_of, entries_of, roles_of, bytes_of, AdmittedAfter}
 use Rattle.spec_bodies.specs.SequenceBody.{placed_after, unit_bytes, units, descriptors}
 use Rattle.spec_bodies.proofs.Alike.{counts, IsAlike, frame_length_same, definitions_same}
-use Rattle.iamf_rules.proofs.Lawful.{Lawful, lawful, admitted-push}
+use Rattle.spec_rules.proofs.Lawful.{Lawful, lawful, admitted-push}
 use Rattle.spec_bodies.proofs.SpelledRoles.{describes, carries, descriptor_is, data_is, roles_are, roles_push, early_is, no_fault}
 use Rattle.spec_bodies.proofs.Rebuilt.{IsRebuilt, alike_right, unit_same, unit_new, rebuilt_none, rebuilt_ignored, rebuilt_descriptor, rebuilt_delimiter, rebuilt_same, rebuilt_new, same_passes, new_passes, delimiter_passes, descriptor_passes, descriptor_quiet, next_unit, complete_last, IsMarked, marked-quiet, marked-delimiter, marked-carried, delimiter_next, delimiter_complete}
 use Rattle.spec_bodies.proofs.OneMore.{bytes-push, descriptors-none, units-none, rebuilt-none, descriptors-more, descriptors-same, placed-none, placed-some, unit-other, unit-apart, units-quiet, units-mark, units-new, GrowsLast, units-grow, rebuilt-unit, rebuilt-grow, rebuilt-describe, size, size-push}

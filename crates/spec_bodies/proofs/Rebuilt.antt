@@ -19,8 +19,8 @@ use Rattle.spec_rules.proofs.Placing.{placed_last, last_in, placed-push, in_unit
 use Rattle.spec_rules.proofs.OpenUnits.{open_unit-with, is_delimited-quiet, delimiters-some, delimiters-none, open_unit-ended}
 use Rattle.spec_bodies.proofs.Filtered.{if_passes, filtered}
 use Rattle.spec_bodies.proofs.Alike.{counts, counts_in, IsAlike, profiles_same, lacks_same, fit_same, complete_same, block_fault_same, frame_fault_same, descriptor_fault_same}
-use Rattle.iamf_rules.proofs.Lawful.{Lawful, no_data-header}
-use Rattle.iamf_rules.proofs.Faulting.{some_delimiter, ended_is}
+use Rattle.spec_rules.proofs.Lawful.{Lawful, no_data-header}
+use Rattle.spec_rules.proofs.Delimiters.{some_delimiter, ended_is}
 
 -- ---- lists
 

@@ -4,7 +4,7 @@ use Rattle.spec_values.specs.Value.{ObuValue}
 use Rattle.spec_rules.specs.Descriptors.{codecs, frame_length}
 use Rattle.spec_rules.specs.Rules.{rate_of}
 use Rattle.spec_sequence.specs.Parts.{FrameValue, UnitValue, temporal_units}
-use Rattle.spec_report.specs.Report.{kept}
+use Rattle.spec_rules.specs.Samples.{kept}
 use Rattle.spec_boxes.specs.Laws.{Holds}
 use Rattle.spec_files.specs.Body.{rebuilt}
 use Rattle.spec_files.specs.MovieFile.{Movie, file}

@@ -11,7 +11,8 @@ use Rattle.spec_play.specs.Mixes.{Rendition, codec_of, unit_length, unit_of}
 use Rattle.spec_play.specs.Waves.{wave_shape}
 use Rattle.spec_play.specs.Exact.{Place}
 use Rattle.spec_play.specs.FixedMix.{fixed_mix, fixed_sample}
-use Rattle.spec_play.specs.Playing.{first_trim, kept_samples, places_at, unit_places, places, IsNear, IsPlayed, fixed_bytes, unit_bytes, fixed_wave}
+use Rattle.spec_sequence.specs.Parts.{first_trim}
+use Rattle.spec_play.specs.Playing.{kept_samples, places_at, unit_places, places, IsNear, IsPlayed, fixed_bytes, unit_bytes, fixed_wave}
 use Rattle.spec_play.specs.Laws.{IsPlayable, IsPlace, FixedWavePlays}
 use Rattle.spec_play.proofs.Tests.{Each, each_flat_map, each_map}
 use Rattle.spec_play.proofs.MixIsNear.{IsAbout}

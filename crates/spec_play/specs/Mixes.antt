@@ -9,7 +9,7 @@ use Rattle.spec_values.specs.Value.{ObuValue}
 use Rattle.spec_rules.specs.declared.codec_role.CodecRole.{CodecRole}
 use Rattle.spec_sequence.specs.ValueRole.{role_of_codec}
 use Rattle.spec_sequence.specs.Parts.{UnitValue, roles_of, codec_configs, audio_elements, mix_presentations, temporal_units}
-use Rattle.spec_report.specs.Report.{kept}
+use Rattle.spec_rules.specs.Samples.{kept}
 use Rattle.spec_play.specs.declared.target.Target.{Target}
 
 -- an audio element, and the gain by which it goes into the mix

@@ -6,7 +6,7 @@ use Rattle.spec_demix.specs.Rounding.{clipped}
 use Rattle.spec_demix.specs.ExactWalk.{Quotient}
 use Rattle.spec_waves.specs.Wave.{sample_bytes, header_bytes, pad, wave}
 use Rattle.spec_values.specs.Value.{ObuValue}
-use Rattle.spec_sequence.specs.Parts.{FrameValue}
+use Rattle.spec_sequence.specs.Parts.{first_trim}
 use Rattle.spec_play.specs.declared.target.Target.{Target}
 use Rattle.spec_play.specs.Mixes.{Rendition, rendition_of, codec_of, unit_length, unit_of}
 use Rattle.spec_play.specs.Waves.{wave_shape}
@@ -14,11 +14,6 @@ use Rattle.spec_play.specs.Exact.{Place, IsExact}
 use Rattle.spec_play.specs.FixedMix.{fixed_sample}
 
 -- ---- the samples of a WAV file, in their order
-
--- the trims of a unit are those of its first frame
-abbrev pub first_trim : List FrameValue → Trim
-first_trim [] = record { end = 0; start = 0 }
-first_trim (frame ∷ frames) = frame.trim
 
 -- the samples that no trim leaves out
 abbrev pub kept_samples : ℕ → Trim → List ℕ

@@ -4,7 +4,7 @@ ghost use Rattle.std.specs.Prelude.{◌≡◌, [], ◌∷◌, pos, negsuc};
 ghost use Rattle.spec_blocks.specs.ParameterBlock.{Step, Linear};
 ghost use Rattle.spec_play.specs.GainsOverTime.{part_gain};
 ghost use Rattle.spec_play.specs.DemixingOverTime.{index_after_modes};
-ghost use Rattle.spec_play.specs.Laws.{FixedMixIsNear, FixedWavePlays, SelectedIsPlayable, SomeExact, RowsAreOfFrame};
+ghost use Rattle.spec_play.specs.Laws.{FixedMixIsNear, FixedWavePlays, SelectedIsPlayable, SomeExact, RowsAreOfFrame, FramesAreWhole, OneCodecConfig};
 
 /// A mix of a sequence that the selection passes is played.
 pub fn selected_mixes_are_playable()
@@ -29,6 +29,12 @@ pub fn the_fixed_wave_plays()
 /// The rows of samples of a FLAC frame are those of its fields.
 pub fn rows_are_of_the_frame()
     ensures { RowsAreOfFrame }
+{}
+
+/// The frames of each unit of a sequence are whole: one of each substream, which its codec decodes.
+pub fn frames_are_whole()
+    ensures whole { FramesAreWhole }
+    ensures codec { OneCodecConfig }
 {}
 
 /// From 0 dB to -6 dB in eight ticks, the gain at tick 4 is 0.750593616813.

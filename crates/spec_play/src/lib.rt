@@ -10,7 +10,8 @@ mod target;
 
 pub use fault::PlayFault;
 pub use laws::{
-    exact_values_are_there, indices_are_stepped, linear_gains_are_exact, rows_are_of_the_frame,
-    selected_mixes_are_playable, the_fixed_mix_is_near, the_fixed_wave_plays,
+    exact_values_are_there, frames_are_whole, indices_are_stepped, linear_gains_are_exact,
+    rows_are_of_the_frame, selected_mixes_are_playable, the_fixed_mix_is_near,
+    the_fixed_wave_plays,
 };
 pub use target::Target;

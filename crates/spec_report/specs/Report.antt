@@ -15,7 +15,8 @@ use Rattle.spec_rules.specs.Role.{Role}
 use Rattle.spec_sequence.specs.ValueRole.{role_of_codec, mix_role}
 use Rattle.spec_rules.specs.Descriptors.{frame_length}
 use Rattle.spec_rules.specs.Profile.{fits}
-use Rattle.spec_rules.specs.Units.{trims_in, unit_count}
+use Rattle.spec_rules.specs.Units.{unit_count}
+use Rattle.spec_rules.specs.Samples.{kept}
 use Rattle.spec_sequence.specs.Parts.{roles_of, sequence_headers, codec_configs, audio_elements, MixValue, mix_values}
 
 abbrev pub ended : List ℕ → List ℕ
@@ -87,24 +88,6 @@ tag_lines tail = flat_map tag_line (tags_or_none (tags_of tail))
 -- the line of a mix, and then those of its tags
 abbrev pub mix_lines : List Role → MixValue → List ℕ
 mix_lines l m = mix_line l m.fields ++ tag_lines m.tail
-
--- ---- samples
-
--- the samples of a channel that a unit keeps: its trims are those of its first frame
-abbrev pub kept_by : ℕ → List Trim → ℕ
-kept_by length [] = 0
-kept_by length (t ∷ ts) = length - (t.start + t.end)
-
-abbrev pub kept_in : List Role → ℕ → ℕ
-kept_in l u = kept_by (frame_length l) (trims_in u l)
-
--- the samples of a channel that the first so many units keep
-abbrev pub kept_up_to : List Role → ℕ → ℕ
-kept_up_to l zero = 0
-kept_up_to l (suc u) = kept_up_to l u + kept_in l u
-
-unfoldable pub kept : List Role → ℕ
-kept l = kept_up_to l (unit_count l)
 
 -- ---- the whole
 

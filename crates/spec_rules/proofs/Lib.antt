@@ -7,3 +7,8 @@ pub mod OpenUnits
 pub mod NoFault
 pub mod DistinctIds
 pub mod Examples
+pub mod Delimiters
+pub mod Balance
+pub mod Orderly
+pub mod UnitCount
+pub mod Lawful

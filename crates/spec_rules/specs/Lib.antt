@@ -4,3 +4,4 @@ pub mod Profile
 pub mod Units
 pub mod Rules
 pub mod Admitted
+pub mod Samples

@@ -79,6 +79,11 @@ pub record BlockValue : Type 0 where
   pub fields : BlockFields
   pub tail : List ℕ
 
+-- the trims of a unit are those of its first frame, 0 and 0 without one
+abbrev pub first_trim : List FrameValue → Trim
+first_trim [] = record { end = 0; start = 0 }
+first_trim (frame ∷ frames) = frame.trim
+
 abbrev pub frame_in : Head → Content → List ℕ → List FrameValue
 frame_in h (Frame substream) tail = record { substream = substream; trim = trim_of h.trim; bytes = tail } ∷ []
 frame_in h _ tail = []

@@ -1,8 +1,8 @@
 //! `check` and `canon` on worked examples.
 use super::case::{Case, encoded, reported, whole};
 use super::parts::{
-    BLOCK, CODEC, DELIMITER, DESCRIPTORS, ELEMENT, FLAC, FLAC_FRAME, HEAD, HEADER, MIX,
-    MIX_OF_BOTH, MONO, OPUS, SAMPLES, SECOND_ELEMENT,
+    BLOCK, CODEC, DELIMITER, DESCRIPTORS, ELEMENT, FLAC, FLAC_FRAME, FOUR_OUTPUTS, HEAD, HEADER,
+    MIX, MIX_OF_BOTH, MONO, ONE_OUTPUT, OPUS, SAMPLES, SECOND_ELEMENT,
 };
 use crate::status::Status;
 use std::alloc::{AllocError, Global};
@@ -21,12 +21,6 @@ const ONE_UNIT: &[u8] = b"units 1\nsamples 8\n";
 
 const LABELLED_MIX: &[u8] = b"\x10\x2a\x02\x01en-us\x00Mix\x00\x01\x01\x01Bed\x00\x00\x00\
     \x64\x80\xf7\x02\x80\x00\x00\x65\x80\xf7\x02\x80\x00\x00\x01\x80\x00\x00\x00\x00\x00";
-
-/// Ambisonics of one output, by a matrix.
-const ONE_OUTPUT: &[u8] = b"\x08\x0c\x01\x20\x00\x01\x00\x00\x01\x01\x01\x00\x40\x00";
-
-/// Ambisonics of four outputs, the last of them silent.
-const FOUR_OUTPUTS: &[u8] = b"\x08\x0f\x01\x20\x00\x03\x00\x01\x02\x00\x00\x04\x03\x00\x01\x02\xff";
 
 const BASE_HEADER: &[u8] = b"\xf8\x06iamf\x01\x00";
 

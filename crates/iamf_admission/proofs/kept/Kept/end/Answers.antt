@@ -2,7 +2,7 @@ use Rattle.std.proofs.Common.{sym, ap, ◌∙◌}
 use Rattle.spec_rules.specs.Units.{unit_count}
 use Rattle.spec_sequence.specs.Reading.{roles, values_of}
 use Rattle.spec_sequence.proofs.Roles.{roles_of_values}
-use Rattle.spec_report.specs.Report.{kept}
+use Rattle.spec_rules.specs.Samples.{kept}
 use Rattle.iamf_admission.proofs.kept.Kept.end.Goals as goal
 
 pub returns-in-Some : goal.returns-in-Some

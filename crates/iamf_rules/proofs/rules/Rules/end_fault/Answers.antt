@@ -1,6 +1,6 @@
 use Rattle.std.proofs.Common.{◌∙◌}
 use Rattle.iamf_rules.proofs.Faulting.{last_fault_is}
-use Rattle.iamf_rules.proofs.Lawful.{lawful}
+use Rattle.spec_rules.proofs.Lawful.{lawful}
 use Rattle.iamf_rules.proofs.rules.Rules.end_fault.Goals as goal
 
 pub returns : goal.returns

@@ -3,7 +3,7 @@ use Rattle.std.specs.Option.{option_map}
 use Rattle.spec_rules.specs.Role.{ElementRole, MixRole}
 use Rattle.obu_data.specs.DefinitionView.{view_definition}
 use Rattle.iamf_rules.proofs.Faulting.{codec_fault_is, element_is, mix_is, delimiter_fault_is, block_fault_is, frame_fault_is}
-use Rattle.iamf_rules.proofs.Lawful.{lawful}
+use Rattle.spec_rules.proofs.Lawful.{lawful}
 use Rattle.iamf_rules.proofs.Decoding.{can_decode}
 use Rattle.iamf_rules.proofs.rules.Rules.fault_after.Goals as goal
 

@@ -1,7 +1,7 @@
 use Rattle.std.proofs.Common.{◌∙◌}
 use Rattle.iamf_rules.proofs.Faulting.{kept_length}
 use Rattle.iamf_rules.proofs.UnitCount.{samples_are}
-use Rattle.iamf_rules.proofs.Lawful.{lawful}
+use Rattle.spec_rules.proofs.Lawful.{lawful}
 use Rattle.iamf_rules.proofs.OneMore.{small}
 use Rattle.iamf_rules.proofs.rules.Rules.samples.Goals as goal
 

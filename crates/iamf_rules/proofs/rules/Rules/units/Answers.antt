@@ -1,6 +1,6 @@
 use Rattle.std.proofs.Common.{◌∙◌}
 use Rattle.iamf_rules.proofs.UnitCount.{units_are}
-use Rattle.iamf_rules.proofs.Lawful.{lawful}
+use Rattle.spec_rules.proofs.Lawful.{lawful}
 use Rattle.iamf_rules.proofs.OneMore.{small}
 use Rattle.iamf_rules.proofs.rules.Rules.units.Goals as goal
 

@@ -23,7 +23,7 @@ pub invariant_of-result : goal.invariant_of-result
 invariant_of-result c =
     let e : c.loop-i.i ≡ c.args.target + 1 = omega arith in
     let k = rw e at c.loop-i.invariant.kept in
-    rw k (kernel_is c.args.layers.now c.args.target c.sent_by_each-sent.result c.requires.target c.requires.chain c.requires.gains (rw k at c.sent_by_each-sent.ensures))
+    rw k (kernel_is c.args.layers.now c.args.target c.origins_of-origins.result c.requires.target c.requires.chain c.requires.gains (rw k at c.origins_of-origins.ensures))
 
 pub returns-clause-channels : goal.returns-clause-channels
 returns-clause-channels c =
@@ -31,8 +31,8 @@ returns-clause-channels c =
     let k = rw e at c.loop-i.invariant.kept in
     rw k (target_kept c.args.layers.now c.args.target c.requires.target)
 
-pub sent_by_each-sent-requires-clause-few : goal.sent_by_each-sent-requires-clause-few
-sent_by_each-sent-requires-clause-few c =
+pub origins_of-origins-requires : goal.origins_of-origins-requires
+origins_of-origins-requires c =
     let f = few (seen c.args.layers.now) c.args.target c.requires.chain in
     let room : c.args.target + 1 ≤ length c.loop-i.kept = rw c.loop-i.invariant.long (omega arith) in
     rw (length-take-le (c.args.target + 1) c.loop-i.kept room) (omega arith)

@@ -1,0 +1,113 @@
+-- An element before its first unit.
+use Rattle.std.proofs.Common.{arith, ◌≡◌, ◌<◌, ◌≤◌, ◌+◌, ◌-◌, ℕ, zero, suc, ℤ, true, false, List, [], ◌∷◌, map, length, get_or, Option, Some, None, refl, sym, ap, subst, ◌∙◌, slice_get}
+use Rattle.std.specs.Prelude.{sum, sum_by, option_map, IsTrue, MatchOption}
+use Rattle.std.specs.List.{All, list_any}
+use Rattle.std.proofs.lemmas.Bool.{not-false}
+use Rattle.std.proofs.lemmas.List.{length-map}
+use Rattle.obu_descriptors.specs.declared.layer.Layer.{Layer}
+use Rattle.obu_descriptors.specs.LayerView.{view_layer}
+use Rattle.std.proofs.lemmas.Option.{get_or_from_slice_get}
+use Rattle.spec_samples.specs.Lpcm.{is_depth}
+use Rattle.spec_layouts.specs.declared.Layout.{Layout}
+use Rattle.spec_descriptors.specs.CodecConfig.{CodingFields, Lpcm, Flac, CodecConfigFields}
+use Rattle.spec_descriptors.specs.Layers.{LayerFields}
+use Rattle.spec_descriptors.specs.AudioElement.{ConfigFields, Scalable, Ambisonics, Other, AudioElementFields, substream_channels_of, coded_channels_of}
+use Rattle.spec_rules.specs.Descriptors.{pairs_in}
+use Rattle.spec_sequence.specs.ValueRole.{codec_role}
+use Rattle.spec_demix.specs.declared.DemixLayer.{DemixLayer}
+use Rattle.spec_demix.specs.Elements.{demix_layers_of}
+use Rattle.spec_sequence.specs.Parts.{codec_configs}
+use Rattle.spec_sequence.specs.Reading.{Reads, values_of}
+use Rattle.spec_play.specs.declared.target.Target.{Target}
+use Rattle.spec_play.specs.declared.target.Target.TheVariants as target
+use Rattle.spec_play.specs.Mixes.{MixedElement, Rendition, codec_of, unit_length, unit_of}
+use Rattle.spec_play.specs.UsedLayers.{is_of, layers_up_to, used_layers}
+use Rattle.spec_play.specs.Selection.{lacks_layer, is_for_other, is_unknown}
+use Rattle.spec_play.specs.Laws.{HasFrame, HasFramesOf}
+use Rattle.spec_play.proofs.Tests.{Each}
+use Rattle.spec_play.proofs.CodecDepths.{HasDepth, sequence_depths}
+use Rattle.spec_play.proofs.WholeFrames.{frames_whole, one_config}
+use Rattle.iamf_bits.specs.Rows.{Rows}
+use Rattle.iamf_channels.specs.declared.parameters.Demixing.{Demixing}
+use Rattle.iamf_channels.specs.Heard.{ChannelsValue, Hears}
+use Rattle.iamf_channels.specs.Decoded.{no_rows}
+use Rattle.iamf_channels.specs.Parameters.{HasDemixing, AreSound}
+use Rattle.iamf_channels.specs.Playing.{IsKernelOf, HaveFrames, IsPlaying}
+use Rattle.iamf_channels.proofs.CodedRows.{frame_at, sum_is}
+use Rattle.iamf_channels.proofs.FrameLengths.{sequence_lengths}
+
+deep : (id n : ℕ) (k : CodingFields) → HasDepth k → IsTrue (is_depth (codec_role id n k).depth)
+deep id n (Lpcm little depth rate) h = h
+deep id n (Flac info others) h = h
+
+pub rendition_depth : (bytes : List ℕ) (v : ChannelsValue) (r : Rendition) → Reads bytes (values_of v.sequence.entries) → Hears v r → IsTrue (is_depth (codec_of r).depth)
+rendition_depth bytes v r reads h =
+    let one = one_config bytes (values_of v.sequence.entries) h.mix v.target r reads h.heard_is in
+    let all = subst (λ (cs : List CodecConfigFields). Each (λ c. HasDepth c.coding) cs) one (sequence_depths bytes (values_of v.sequence.entries) reads) in
+    deep r.codec.codec_config_id r.codec.num_samples_per_frame r.codec.coding all.0
+
+pub rendition_length : (bytes : List ℕ) (v : ChannelsValue) (r : Rendition) → Reads bytes (values_of v.sequence.entries) → Hears v r → unit_length r ≤ 65535
+rendition_length bytes v r reads h =
+    let one = one_config bytes (values_of v.sequence.entries) h.mix v.target r reads h.heard_is in
+    (subst (λ (cs : List CodecConfigFields). Each (λ c. c.num_samples_per_frame ≤ 65535) cs) one (sequence_lengths bytes (values_of v.sequence.entries) reads)).0
+
+slice_below : {A : Type 0} (xs : List A) (i : ℕ) (x : A) → slice_get xs i ≡ Some x → i < length xs
+slice_below [] i x e = absurd (cc)
+slice_below (y ∷ xs) zero x e = omega arith
+slice_below (y ∷ xs) (suc i) x e = let rest = slice_below xs i x e in omega arith
+
+rendition_frames : (bytes : List ℕ) (v : ChannelsValue) (r : Rendition) (planes : List Rows) → Reads bytes (values_of v.sequence.entries) → Hears v r → length planes ≡ length v.element.audio_substream_ids
+    → substream_channels_of v.element.config ≡ Some (map (λ (p : Rows). p.channels) planes) → HaveFrames r v.element planes
+rendition_frames bytes v r planes reads h count known = λ u i there within.
+    let whole = frames_whole bytes (values_of v.sequence.entries) h.mix v.target r u reads h.heard_is there in
+    let inside = slice_below r.elements h.place h.mixed h.there in
+    let is = get_or_from_slice_get r.elements h.place h.mixed h.mixed h.there in
+    let all : HasFramesOf r.codec (unit_of r u) v.element = subst (HasFramesOf r.codec (unit_of r u)) (ap (λ (m : MixedElement). m.element) is ∙ h.element_is) (whole.frames h.place h.mixed inside) in
+    let pairs = subst (λ (o : Option (List ℕ)). All (HasFrame r.codec (unit_of r u)) (pairs_in v.element.audio_substream_ids o)) known all in
+    frame_at r.codec (unit_of r u) v.element.audio_substream_ids planes i count pairs within
+
+pub first_playing : (bytes : List ℕ) (v : ChannelsValue) (kernel : Option (List DemixLayer)) (d : Demixing) (planes : List Rows) (row : List ℤ) (r : Rendition) → Reads bytes (values_of v.sequence.entries) → Hears v r → v.begun ≡ 0
+    → IsKernelOf v.target v.element.config kernel → HasDemixing r v.element 0 d → AreSound d → length planes ≡ length v.element.audio_substream_ids → substream_channels_of v.element.config ≡ Some (map (λ (p : Rows). p.channels) planes)
+    → All (λ (p : Rows). p.length ≡ unit_length r) planes → length row ≡ sum_by (λ (p : Rows). p.channels) planes → IsPlaying v kernel d planes row
+first_playing bytes v kernel d planes row r reads h none kernel_is demixing sound count known lengths row_is = record {
+  heard = r;
+  is_heard = h;
+  kernel_is = kernel_is;
+  demixing = subst (λ (n : ℕ). HasDemixing r v.element n d) (sym none) demixing;
+  sound = sound;
+  rows = record { count = count; channels = known; lengths = λ i there. lengths i no_rows there };
+  depth = rendition_depth bytes v r reads h;
+  frames = rendition_frames bytes v r planes reads h count known;
+  last = λ u e. let no : 0 ≡ u + 1 = sym none ∙ e in absurd (omega arith);
+  row = row_is;
+}
+
+-- ---- its kernel
+
+up_to_some : (layout : Layout) (layers : List LayerFields) → list_any (is_of layout) layers ≡ true → 0 < length (layers_up_to layout layers)
+up_to_some layout [] e = absurd (cc)
+up_to_some layout (layer ∷ layers) e = omega arith
+
+pub kernel_kind : (played : Target) (config : ConfigFields) (kernel : Option (List DemixLayer)) → lacks_layer played config ≡ false → is_for_other played config ≡ false → is_unknown config ≡ false
+    → MatchOption kernel (length (used_layers played config) ≡ 0) (λ k. (0 < length (used_layers played config)) × (k ≡ demix_layers_of (used_layers played config))) → IsKernelOf played config kernel
+kernel_kind (target.Layer layout) (Scalable layers) (Some k) there suits known is = is.1
+kernel_kind (target.Layer layout) (Scalable layers) None there suits known is = let some = up_to_some layout layers (not-false (list_any (is_of layout) layers) there) in absurd (omega arith)
+kernel_kind target.Scene (Ambisonics config) None there suits known is = omega arith
+kernel_kind target.Scene (Ambisonics config) (Some k) there suits known is = absurd (omega (arith, is.0))
+kernel_kind (target.Layer layout) (Ambisonics config) kernel there suits known is = absurd (cc)
+kernel_kind (target.Layer layout) (Other kind bytes) kernel there suits known is = absurd (cc)
+kernel_kind target.Scene (Scalable layers) kernel there suits known is = absurd (cc)
+kernel_kind target.Scene (Other kind bytes) kernel there suits known is = absurd (cc)
+
+pub kernel_made : (used : List Layer) (layers : List LayerFields) (kernel : Option (List DemixLayer)) → map view_layer used ≡ layers → MatchOption kernel (length used ≡ 0) (λ k. (0 < length used) × (k ≡ demix_layers_of (map view_layer used)))
+    → MatchOption kernel (length layers ≡ 0) (λ k. (0 < length layers) × (k ≡ demix_layers_of layers))
+kernel_made used layers None is h = let e : length layers ≡ length used = sym (ap (λ (xs : List LayerFields). length xs) is) ∙ length-map used view_layer in e ∙ h
+kernel_made used layers (Some k) is h =
+    let e : length layers ≡ length used = sym (ap (λ (xs : List LayerFields). length xs) is) ∙ length-map used view_layer in
+    (omega (arith, h.0), h.1 ∙ ap demix_layers_of is)
+
+pub counted : (config : ConfigFields) (planes : List Rows) (count : ℕ) → substream_channels_of config ≡ Some (map (λ (p : Rows). p.channels) planes) → coded_channels_of config ≡ Some count → count ≡ sum_by (λ (p : Rows). p.channels) planes
+counted config planes count known is =
+    let all : coded_channels_of config ≡ Some (sum (map (λ (p : Rows). p.channels) planes)) = ap (option_map (λ (cs : List ℕ). sum cs)) known in
+    let same : count ≡ sum (map (λ (p : Rows). p.channels) planes) = cc in
+    same ∙ sum_is planes

@@ -1,0 +1,16 @@
+mod AddedChannels
+mod CodedFrames
+mod CodedRows
+mod FirstElement
+mod FlacSizes
+mod FrameLengths
+mod FrameRows
+mod HeardRenditions
+mod LayerCounts
+mod ParameterSteps
+mod PlayedElements
+mod RowLists
+mod SampleSizes
+mod StreamCounts
+mod StreamFrames
+mod UsedKernels

@@ -1,0 +1,5 @@
+pub mod Adding
+pub mod Heard
+pub mod Decoded
+pub mod Parameters
+pub mod Playing

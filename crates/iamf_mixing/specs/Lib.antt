@@ -1,0 +1,5 @@
+pub mod Rows
+pub mod Bytes
+pub mod Ticks
+pub mod Tracks
+pub mod Scenes

@@ -1,0 +1,107 @@
+-- In a sequence the frames of a codec config are of at most 65535 samples, and their rate is at most 96000.
+use Rattle.std.proofs.Common.{arith, ◌≡◌, ◌≤◌, ℕ, true, false, if◌then◌else◌, List, [], ◌∷◌, ◌++◌, subst}
+use Rattle.std.specs.Prelude.{◌==◌, nat_lt}
+use Rattle.std.specs.List.{flat_map}
+use Rattle.std.proofs.lemmas.Bool.{not-false, ltb-false}
+use Rattle.std.proofs.lemmas.Bool.Decides.{nat_tests}
+use Rattle.spec_bits.specs.Form.{Blocks}
+use Rattle.spec_syntax.specs.Syntax.{End, Choice, field}
+use Rattle.spec_syntax.specs.Payload.{FieldValue}
+use Rattle.spec_syntax.proofs.Fields.{Has, field_step, end_step, choice_step, bind_step}
+use Rattle.spec_obu.specs.declared.obu_type.ObuType.{ObuType}
+use Rattle.spec_obu.specs.declared.obu_type.ObuType.TheVariants as obu_type
+use Rattle.spec_descriptors.specs.CodecConfig.{StreamInfoFields, CodingFields, Lpcm, Flac, CodecConfigFields, is_rate, lpcm_config, stream_info, flac_config, codec_config}
+use Rattle.spec_values.specs.Content.{Content, Header, Codec, Element, Mix, Block, Frame, Nothing, Context, Says}
+use Rattle.spec_values.specs.Value.{ObuValue}
+use Rattle.spec_sequence.specs.Parts.{codec_in, of_plain, codec_configs}
+use Rattle.spec_sequence.specs.Reading.{Entry, values_of, AdmittedAfter, Reads}
+use Rattle.spec_play.proofs.Tests.{Each, each_both, neither}
+
+rate_low : (n : ℕ) → is_rate n ≡ true → n ≤ 96000
+rate_low n e = grind (arith, nat_tests)
+
+abbrev pub HasRate : CodingFields → Type 0
+HasRate (Lpcm is_little depth rate) = rate ≤ 96000
+HasRate (Flac info others) = info.sample_rate ≤ 96000
+
+-- ---- a codec config
+
+lpcm_rate : (xs : List FieldValue) (r : CodingFields) → Has lpcm_config xs r → HasRate r
+unfolding lpcm_config
+lpcm_rate xs r h =
+    field_step h λ flags ys e f p h1.
+    field_step h1 λ depth ys1 e1 f1 p1 h2.
+    field_step h2 λ rate ys2 e2 f2 p2 h3.
+    end_step h3 λ e3 is.
+    subst HasRate is (rate_low rate (not-false (is_rate rate) p2.0))
+
+info_rate : (xs : List FieldValue) (r : StreamInfoFields) → Has stream_info xs r → r.sample_rate ≤ 96000
+unfolding stream_info
+info_rate xs r h =
+    field_step h λ is_last ys e f p h1.
+    field_step h1 λ block_type ys1 e1 f1 p1 h2.
+    field_step h2 λ block_length ys2 e2 f2 p2 h3.
+    field_step h3 λ min_block ys3 e3 f3 p3 h4.
+    field_step h4 λ max_block ys4 e4 f4 p4 h5.
+    field_step h5 λ min_frame ys5 e5 f5 p5 h6.
+    field_step h6 λ max_frame ys6 e6 f6 p6 h7.
+    field_step h7 λ rate ys7 e7 f7 p7 h8.
+    field_step h8 λ channels ys8 e8 f8 p8 h9.
+    field_step h9 λ depth ys9 e9 f9 p9 h10.
+    field_step h10 λ high ys10 e10 f10 p10 h11.
+    field_step h11 λ low ys11 e11 f11 p11 h12.
+    field_step h12 λ digest ys12 e12 f12 p12 h13.
+    end_step h13 λ e13 is.
+    subst (λ (y : StreamInfoFields). y.sample_rate ≤ 96000) is (rate_low rate (not-false (is_rate rate) p7.0))
+
+flac_rate : (xs : List FieldValue) (r : CodingFields) → Has flac_config xs r → HasRate r
+unfolding flac_config
+flac_rate xs r h =
+    bind_step stream_info _ h λ front ys info e first h1.
+    bind_step (Choice (info.is_last == 1) (End []) (field Blocks [])) (λ list. End (Flac info list)) h1 λ front1 ys1 others e1 second h2.
+    end_step h2 λ e2 is.
+    subst HasRate is (info_rate front info first)
+
+pub record HasNumbers (c : CodecConfigFields) : Type 0 where
+  pub length : c.num_samples_per_frame ≤ 65535
+  pub rate : HasRate c.coding
+
+config_numbers : (xs : List FieldValue) (r : CodecConfigFields) → Has codec_config xs r → HasNumbers r
+unfolding codec_config
+config_numbers xs r h =
+    field_step h λ id ys e f p h1.
+    field_step h1 λ codec ys1 e1 f1 p1 h2.
+    field_step h2 λ samples ys2 e2 f2 p2 h3.
+    field_step h3 λ roll ys3 e3 f3 p3 h4.
+    bind_step (Choice (codec == 0x664c6143) flac_config lpcm_config) (λ found. End (record { codec_config_id = id; num_samples_per_frame = samples; coding = found })) h4 λ front ys4 coding e4 first h5.
+    end_step h5 λ e5 is.
+    subst HasNumbers is (record {
+      length = ltb-false 65535 samples (neither (samples == 0) (nat_lt 65535 samples) p2.0).1;
+      rate = choice_step first (λ flac h6. flac_rate front coding h6) (λ other h6. lpcm_rate front coding h6);
+    })
+
+-- ---- a sequence
+
+content_numbers : (context : Context) (n : ℕ) (k : ObuType) (c : Content) (tail payload : List ℕ) → Says context n k c tail payload → Each HasNumbers (codec_in c)
+content_numbers context n obu_type.CodecConfig (Codec c) tail payload s = (config_numbers _ c (record { before = []; bits = s.spelling; stands = s.stands }), tt)
+content_numbers context n k (Codec c) tail payload s = absurd s
+content_numbers context n k (Header h) tail payload s = tt
+content_numbers context n k (Element e) tail payload s = tt
+content_numbers context n k (Mix m) tail payload s = tt
+content_numbers context n k (Block b) tail payload s = tt
+content_numbers context n k (Frame f) tail payload s = tt
+content_numbers context n k Nothing tail payload s = tt
+
+plain_numbers : (o : ObuValue) → Each HasNumbers (codec_in o.content) → Each HasNumbers (of_plain codec_in o)
+plain_numbers o all = elim o.head.redundant as (λ b. Each HasNumbers (if b then [] else codec_in o.content)) [ true ↦ tt | false ↦ all ]
+
+entries_numbers : (past : List Entry) (bytes : List ℕ) (entries : List Entry) → AdmittedAfter past bytes entries → Each HasNumbers (flat_map (of_plain codec_in) (values_of entries))
+entries_numbers past bytes [] admitted = tt
+entries_numbers past bytes (e ∷ es) (piece, rest, parts, spells, passes, more) =
+    each_both HasNumbers (of_plain codec_in e.value) (flat_map (of_plain codec_in) (values_of es))
+    (plain_numbers e.value (content_numbers _ _ _ e.value.content e.value.tail e.payload spells.payload_is.says))
+    (entries_numbers (past ++ e ∷ []) rest es more)
+
+pub sequence_numbers : (bytes : List ℕ) (s : List ObuValue) → Reads bytes s → Each HasNumbers (codec_configs s)
+unfolding codec_configs
+sequence_numbers bytes s reads = subst (λ (v : List ObuValue). Each HasNumbers (flat_map (of_plain codec_in) v)) reads.values_are (entries_numbers [] bytes reads.entries reads.admitted)

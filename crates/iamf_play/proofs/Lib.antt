@@ -1,0 +1,13 @@
+pub mod CodecNumbers
+pub mod ElementWalks
+pub mod GainRows
+pub mod MixSteps
+pub mod MixedUnits
+pub mod PartSteps
+pub mod PlanParts
+pub mod PlanShapes
+pub mod Renditions
+pub mod ReservedSteps
+pub mod SceneOutputs
+pub mod UnitsAreFew
+pub mod WaveShapes

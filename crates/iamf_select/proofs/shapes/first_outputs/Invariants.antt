@@ -1,0 +1,12 @@
+use Rattle.std.proofs.Common.{◌≡◌, [], map, take}
+use Rattle.spec_sequence.specs.Parts.{audio_elements}
+use Rattle.spec_sequence.specs.Reading.{values_of}
+use Rattle.obu_mix.specs.MixElementView.{view_mix_element}
+use Rattle.spec_play.specs.Mixes.{mixed_elements}
+use Rattle.spec_play.specs.Waves.{output_counts}
+use Rattle.iamf_select.proofs.shapes.first_outputs.Given as goal
+
+abbrev pub invariant-loop-named : goal.invariant-loop-named
+invariant-loop-named l =
+    let seen = mixed_elements (audio_elements (values_of l.candidate.sequence.now.entries)) (take l.named-index (map view_mix_element l.named-items)) in
+    output_counts seen ≡ []

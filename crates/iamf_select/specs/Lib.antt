@@ -1,0 +1,4 @@
+pub mod CandidateView
+pub mod ElementTests
+pub mod Finds
+pub mod PlanView

@@ -1,0 +1,10 @@
+//! Tests of the rules of a sequence, of the admission of OBUs and of the report. They stand apart, since a crate with tests is
+//! proved twice.
+#![tactic(auto)]
+
+#[cfg(test)]
+mod admission;
+#[cfg(test)]
+mod report;
+#[cfg(test)]
+mod rules;

@@ -1,5 +1,0 @@
-use Rattle.obu_descriptors.proofs.ElementAnswers.{read_valid}
-use Rattle.obu_descriptors.proofs.audio_element.tests.read.Goals as goal
-
-pub returns : goal.returns
-returns g c = (c.args.frame_length, read_valid c.args.frame_length c.in-Ok.element c.args.payload.now c.in-Ok.ensures.exact)

@@ -9,7 +9,7 @@
 # - of a file in the folder soxi and mediainfo read the right channels, mask, rate, depth and length, where they are there;
 # - of a file of one layer without gains and trims the samples are those that ffmpeg decodes, where it reads IAMF.
 # Else the answer is the right `unplayable CODE`. FLAC frames are decoded by `flac`; without it such files are left out.
-# The program is $IAMF_TOOL, or the launcher. Without Python 3 nothing is run. The last line is `N passed, M failed`; the status
+# The program is $IAMF_TOOL, or the one that the launcher builds. Without Python 3 nothing is run. The last line is `N passed, M failed`; the status
 # is 0 only where none failed, and 2 for a wrong call.
 
 top=$(cd "$(dirname "$0")/.." && pwd) || exit 2
@@ -22,4 +22,6 @@ if ! command -v python3 >/dev/null 2>&1; then
     echo "0 passed, 0 failed"
     exit 0
 fi
-exec python3 -B "$top/scripts/played.py" "${IAMF_TOOL:-$top/iamf_tool}" "$@"
+tool=${IAMF_TOOL:-$top/crates/iamf_tool/out/iamf_tool}
+[ -x "$tool" ] || "$top/iamf_tool" list </dev/null || exit 2
+exec python3 -B "$top/scripts/played.py" "$tool" "$@"

@@ -90,8 +90,8 @@ def report(folder, quick):
         ours, theirs, written = measure(folder, command, source, copy)
         if program:
             ratios(f"{command} of {size} MB / ffmpeg -c copy", ours, theirs, TIME_LIMIT)
-        above = (ours.peak - os.path.getsize(source) - written) / MIB
-        figure(f"{command}: peak memory above input and output", f"{above:.1f} MiB", f"at most {ABOVE}", above <= ABOVE)
+        above, limit = (ours.peak - os.path.getsize(source)) / MIB, written / MIB + ABOVE
+        figure(f"{command}: peak memory above the input", f"{above:.1f} MiB", f"the output and {ABOVE}: {limit:.1f}", above <= limit)
     if shutil.which("valgrind"):
         report_instructions(folder, 2 if quick else 20)
 

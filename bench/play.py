@@ -16,6 +16,7 @@ import sys
 
 import flac
 import streams
+from inside import Inside
 from run import (MIB, NO_RUN, PROGRAM, Fails, better, count_with_callgrind, figure, heads_of_figures, ratios, row, run_once,
                  run_script)
 
@@ -131,7 +132,7 @@ def report_instructions(folder, source):
         figure(f"{source.name} for {word}: instructions a sample written", f"{each:.1f}", f"at most {limit}", each <= limit)
 
 
-def report_times(folder, source, seconds):
+def report_times(folder, source, seconds, inside):
     count = seconds * streams.RATE // FRAME
     path = write(folder, source, count)
     paths = source.streams(folder, count) if source.name == "FLAC" else []
@@ -142,8 +143,9 @@ def report_times(folder, source, seconds):
         row(f"{what}: time", f"{playing.seconds:.2f} s, CPU {playing.cpu:.2f} s", "", "")
         if paths:
             ratios(f"{what}: play / flac -d of all substreams", playing, decoding, TIME_LIMIT)
-        above = (playing.peak - os.path.getsize(path)) / MIB
-        figure(f"{what}: peak memory above the input", f"{above:.1f} MiB", f"at most {ABOVE}", above <= ABOVE)
+        if inside:
+            above = (inside.run(["play", "1", word], path).run.peak - os.path.getsize(path)) / MIB
+            figure(f"{what}: peak memory above the input", f"{above:.1f} MiB", f"at most {ABOVE}", above <= ABOVE)
     for made in [path, *paths]:
         os.remove(made)
 
@@ -155,12 +157,13 @@ def report(folder, quick):
         sources.append(Flac(folder, sounds))
     else:
         print("skipped: there is no flac here", file=sys.stderr)
+    inside = Inside(folder) if shutil.which("cc") else None
     heads_of_figures()
     for source in sources:
         if shutil.which("valgrind"):
             report_instructions(folder, source)
         for seconds in [3, 6] if quick else [60, 600]:
-            report_times(folder, source, seconds)
+            report_times(folder, source, seconds, inside)
 
 
 if __name__ == "__main__":

@@ -1,15 +1,13 @@
 -- What the code adds of an element is its channel.
-use Rattle.std.proofs.Common.{arith, ◌≡◌, ◌<◌, ◌≤◌, ◌+◌, ℕ, ℤ, pos, true, false, List, [], ◌∷◌, map, length, get_or, Option, Some, None, refl, sym, ap, subst, ◌∙◌}
+use Rattle.std.proofs.Common.{arith, ◌≡◌, ◌<◌, ◌≤◌, ◌+◌, ℕ, ℤ, false, List, map, length, Option, Some, None, refl, sym, ap, subst, ◌∙◌}
+use Rattle.std.specs.Prelude.{sum, unwrap_or}
 use Rattle.std.specs.List.{list_any}
 use Rattle.std.proofs.lemmas.Bool.{not-false}
-use Rattle.spec_layouts.specs.declared.Layout.{Layout}
 use Rattle.spec_layouts.specs.Layouts.{channels}
-use Rattle.spec_gains.specs.declared.DemixMode.{DemixMode}
 use Rattle.spec_gains.specs.Modes.{coefficients_of}
-use Rattle.spec_descriptors.specs.Layers.{LayerFields}
 use Rattle.spec_descriptors.specs.Ambisonics.{AmbisonicsFields}
 use Rattle.spec_descriptors.specs.Ambisonics as fields
-use Rattle.spec_descriptors.specs.AudioElement.{ConfigFields, Scalable, Ambisonics, Other, coded_channels_of}
+use Rattle.spec_descriptors.specs.AudioElement.{ConfigFields, Ambisonics, coupled_first, coded_channels_of}
 use Rattle.spec_descriptors.proofs.ElementCounts.{sum-coupled_first}
 use Rattle.spec_demix.specs.declared.DemixLayer.{DemixLayer}
 use Rattle.spec_demix.specs.Elements.{demix_layers_of}
@@ -30,6 +28,7 @@ use Rattle.spec_play.specs.FixedMix.{fixed_channel_in}
 use Rattle.iamf_channels.specs.Parameters.{AreParameters}
 use Rattle.iamf_channels.specs.Playing.{IsKernelOf}
 use Rattle.iamf_channels.specs.Adding.{CanAdd, added}
+use Rattle.iamf_channels.specs.Needed.{needed}
 use Rattle.iamf_channels.proofs.HeardRenditions.{own_count}
 use Rattle.iamf_channels.proofs.UsedKernels.{kernel_channels, kernel_row}
 
@@ -37,27 +36,29 @@ use Rattle.iamf_channels.proofs.UsedKernels.{kernel_channels, kernel_row}
 pub record HasRoom (played : Target) (config : ConfigFields) (coded sums : ℕ) : Type 0 where
   pub there : lacks_layer played config ≡ false
   pub counted : sums ≡ own_count played config
-  pub enough : (layers : List LayerFields) (layout : Layout) → config ≡ Scalable layers → list_any (is_of layout) layers ≡ true → length (channels layout) ≤ coded
+  pub enough : needed played config ≤ coded
   pub whole : (scene : AmbisonicsFields) → config ≡ Ambisonics scene → IsWhole scene
-  pub all : coded_channels_of config ≡ Some coded
-
-some_same : (a b : ℕ) → Some a ≡ Some b → a ≡ b
-some_same a b e = cc
+  pub most : coded ≤ unwrap_or (coded_channels_of config) 0
 
 pub can_add : (played : Target) (config : ElementConfig) (count : ℕ) (kernel : Option (List DemixLayer)) (coded sums : ℕ) → IsKernelOf played (view_config count config) kernel → HasRoom played (view_config count config) coded sums → CanAdd kernel config coded sums
 can_add (target.Layer layout) (kept.Scalable layers) count (Some kernel) coded sums is room =
     let some = not-false (list_any (is_of layout) (map view_layer layers.items)) room.there in
-    let enough = room.enough (map view_layer layers.items) layout refl some in
+    let enough : length (channels layout) ≤ coded = room.enough in
     let counted : sums ≡ length (channels layout) = room.counted in
     (counted ∙ ap length (sym (kernel_channels layout (map view_layer layers.items) kernel some is)), omega arith)
 can_add target.Scene (kept.Mono outputs mapping) count None coded sums is room =
-    let e : count + 0 ≡ coded = sym (sum-coupled_first count 0 (omega arith)) ∙ some_same _ _ room.all in
+    let e = sum-coupled_first count 0 (omega arith) in
+    let enough : sum (coupled_first count 0) ≤ coded = room.enough in
+    let most : coded ≤ sum (coupled_first count 0) = room.most in
     let same : count ≡ coded = omega arith in
     let counted : sums ≡ outputs = room.counted in
     λ c h. record { whole = subst (λ (n : ℕ). IsWhole (fields.Mono outputs n mapping.now)) same (room.whole (fields.Mono outputs count mapping.now) refl); output = omega arith; counted = refl }
 can_add target.Scene (kept.Projection outputs substreams coupled matrix) count None coded sums is room =
     let whole = room.whole (fields.Projection outputs substreams coupled matrix.now) refl in
-    let e : substreams + coupled ≡ coded = sym (sum-coupled_first substreams coupled whole.1) ∙ some_same _ _ room.all in
+    let total = sum-coupled_first substreams coupled whole.1 in
+    let enough : sum (coupled_first substreams coupled) ≤ coded = room.enough in
+    let most : coded ≤ sum (coupled_first substreams coupled) = room.most in
+    let e : substreams + coupled ≡ coded = omega arith in
     let counted : sums ≡ outputs = room.counted in
     λ c h. record { whole = whole; output = omega arith; counted = sym e }
 can_add (target.Layer layout) (kept.Scalable layers) count None coded sums is room = absurd is

@@ -1,8 +1,8 @@
 -- What the code keeps of a codec config says the same of frames as the config does.
-use Rattle.std.proofs.Common.{◌≡◌, ◌+◌, ◌⊎◌, ℕ, ℤ, pos, IsTrue, List, [], get_or, refl, sym, ap, subst, ◌∙◌}
+use Rattle.std.proofs.Common.{◌≡◌, ◌+◌, ℕ, ℤ, pos, IsTrue, List, [], get_or, sym, ap, subst, ◌∙◌}
 use Rattle.spec_samples.specs.Lpcm.{is_depth}
 use Rattle.spec_flac.specs.Frame.{IsFrame}
-use Rattle.spec_descriptors.specs.CodecConfig.{CodingFields, Lpcm, Flac, CodecConfigFields}
+use Rattle.spec_descriptors.specs.CodecConfig.{CodingFields, Flac, CodecConfigFields}
 use Rattle.spec_sequence.specs.ValueRole.{codec_role}
 use Rattle.spec_play.specs.CodedSamples.{frame_sample, flac_rows}
 use Rattle.spec_play.specs.Laws.{IsCodedBy}

@@ -1,9 +1,8 @@
 -- Rows that hold the frames of a unit have its coded samples.
-use Rattle.std.proofs.Common.{arith, ◌≡◌, ◌<◌, ◌≤◌, ◌+◌, ◌^◌, ℕ, zero, suc, ℤ, pos, List, [], ◌∷◌, ◌++◌, map, length, length-append, get_or, unsigned_abs, Some, None, Option, refl, sym, ap, subst, ◌∙◌}
-use Rattle.std.specs.Prelude.{sum, sum_by}
+use Rattle.std.proofs.Common.{arith, ◌≡◌, ◌<◌, ◌≤◌, ◌+◌, ◌^◌, ℕ, zero, suc, ℤ, pos, List, [], ◌∷◌, ◌++◌, append_assoc, map, take, drop, length, length-append, get_or, unsigned_abs, refl, sym, ap, subst, ◌∙◌}
+use Rattle.std.specs.Prelude.{sum, sum_by, IsSome}
 use Rattle.std.specs.List.{All, flat_map, zip, range_with_len}
 use Rattle.std.proofs.lemmas.List.Elements.{All-nil, All-cons}
-use Rattle.std.proofs.lemmas.List.{length-map, get_or-map}
 use Rattle.std.proofs.lemmas.List.FromFn.{length-map-range_with_len}
 use Rattle.std.proofs.lemmas.List.Sums.{sum_by-cons}
 use Rattle.spec_descriptors.specs.CodecConfig.{CodecConfigFields}
@@ -15,6 +14,8 @@ use Rattle.spec_play.specs.Laws.{HasFrame}
 use Rattle.iamf_bits.specs.Rows.{Rows, sample_of}
 use Rattle.iamf_mixing.specs.Ticks.{tick_of}
 use Rattle.iamf_channels.specs.Decoded.{no_rows, Holds}
+use Rattle.iamf_channels.specs.Needed.{stream_channels}
+use Rattle.iamf_channels.proofs.StreamCounts.{known_list}
 
 map_same : {X : Type 0} (f g : ℕ → X) (a k : ℕ) → ((c : ℕ) → c < a + k → f c ≡ g c) → map f (range_with_len a k) ≡ map g (range_with_len a k)
 map_same f g a zero e = refl
@@ -33,22 +34,50 @@ HoldAll codec unit ids planes = (i : ℕ) → i < length planes → Holds codec 
 abbrev pub AreLonger : ℕ → List Rows → Type 0
 AreLonger n planes = (i : ℕ) → i < length planes → n < (get_or planes i no_rows).length
 
-ticks_same : (codec : CodecConfigFields) (unit : UnitValue) (n : ℕ) (ids : List ℕ) (planes : List Rows) → length planes ≡ length ids → HoldAll codec unit ids planes → AreLonger n planes
-    → flat_map (tick_of n) planes ≡ flat_map (stream_samples codec unit n) (zip ids (map (λ (p : Rows). p.channels) planes))
-ticks_same codec unit n [] [] e hold within = refl
-ticks_same codec unit n (id ∷ ids) [] e hold within = absurd (omega arith)
-ticks_same codec unit n [] (p ∷ planes) e hold within = absurd (omega arith)
-ticks_same codec unit n (id ∷ ids) (p ∷ planes) e hold within =
-    let first = tick_same codec unit id n p (hold 0 (omega arith)) (within 0 (omega arith)) in
-    let rest = ticks_same codec unit n ids planes (omega arith) (λ i h. hold (suc i) (omega arith)) (λ i h. within (suc i) (omega arith)) in
-    ap (λ (xs : List ℤ). xs ++ flat_map (tick_of n) planes) first ∙ ap (λ (ys : List ℤ). stream_samples codec unit n (id, p.channels) ++ ys) rest
+-- the rows of the first substreams hold the first of the coded samples
+ticks_same : (codec : CodecConfigFields) (unit : UnitValue) (n : ℕ) (ids counts : List ℕ) (planes : List Rows) → length planes ≤ length ids → map (λ (p : Rows). p.channels) planes ≡ take (length planes) counts
+    → HoldAll codec unit ids planes → AreLonger n planes
+    → flat_map (stream_samples codec unit n) (zip ids counts) ≡ flat_map (tick_of n) planes ++ flat_map (stream_samples codec unit n) (drop (length planes) (zip ids counts))
+ticks_same codec unit n ids counts [] e known hold within = refl
+ticks_same codec unit n [] counts (p ∷ planes) e known hold within = absurd (omega arith)
+ticks_same codec unit n (id ∷ ids) [] (p ∷ planes) e known hold within = absurd (cc)
+ticks_same codec unit n (id ∷ ids) (count ∷ counts) (p ∷ planes) e known hold within =
+    let wide : p.channels ≡ count = cc in
+    let others : map (λ (p : Rows). p.channels) planes ≡ take (length planes) counts = cc in
+    let first = tick_same codec unit id n p (hold 0 (omega arith)) (within 0 (omega arith)) ∙ ap (λ (k : ℕ). stream_samples codec unit n (id, k)) wide in
+    let rest = ticks_same codec unit n ids counts planes (omega arith) others (λ i h. hold (suc i) (omega arith)) (λ i h. within (suc i) (omega arith)) in
+    let after = flat_map (stream_samples codec unit n) (drop (length planes) (zip ids counts)) in
+    ap (λ (ys : List ℤ). stream_samples codec unit n (id, count) ++ ys) rest ∙ sym (append_assoc (stream_samples codec unit n (id, count)) (flat_map (tick_of n) planes) after)
+    ∙ ap (λ (xs : List ℤ). (xs ++ flat_map (tick_of n) planes) ++ after) (sym first)
 
-pub coded_same : (codec : CodecConfigFields) (unit : UnitValue) (n : ℕ) (element : AudioElementFields) (planes : List Rows) → length planes ≡ length element.audio_substream_ids
-    → substream_channels_of element.config ≡ Some (map (λ (p : Rows). p.channels) planes) → HoldAll codec unit element.audio_substream_ids planes → AreLonger n planes
-    → flat_map (tick_of n) planes ≡ coded_samples codec unit element n
+samples_few : (codec : CodecConfigFields) (unit : UnitValue) (n : ℕ) (ids counts : List ℕ) → length (flat_map (stream_samples codec unit n) (zip ids counts)) ≤ sum counts
+samples_few codec unit n [] counts = omega arith
+samples_few codec unit n (id ∷ ids) [] = omega arith
+samples_few codec unit n (id ∷ ids) (count ∷ counts) =
+    let rest = samples_few codec unit n ids counts in
+    let first = length-map-range_with_len (frame_sample codec count (stream_bytes unit id) n) 0 count in
+    let both = length-append (stream_samples codec unit n (id, count)) (flat_map (stream_samples codec unit n) (zip ids counts)) in
+    let all = sum_by-cons (λ (x : ℕ). x) count counts in
+    omega arith
+
+-- those of the others
+abbrev pub samples_after : CodecConfigFields → UnitValue → AudioElementFields → ℕ → ℕ → List ℤ
+samples_after codec unit element n streams = flat_map (stream_samples codec unit n) (drop streams (zip element.audio_substream_ids (stream_channels element.config)))
+
+pub coded_same : (codec : CodecConfigFields) (unit : UnitValue) (n : ℕ) (element : AudioElementFields) (planes : List Rows) → IsSome (substream_channels_of element.config) → length planes ≤ length element.audio_substream_ids
+    → map (λ (p : Rows). p.channels) planes ≡ take (length planes) (stream_channels element.config) → HoldAll codec unit element.audio_substream_ids planes → AreLonger n planes
+    → coded_samples codec unit element n ≡ flat_map (tick_of n) planes ++ samples_after codec unit element n (length planes)
 unfolding coded_samples
-coded_same codec unit n element planes count known hold within =
-    ticks_same codec unit n element.audio_substream_ids planes count hold within ∙ ap (λ o. flat_map (stream_samples codec unit n) (pairs_in element.audio_substream_ids o)) (sym known)
+coded_same codec unit n element planes known count wide hold within =
+    ap (λ o. flat_map (stream_samples codec unit n) (pairs_in element.audio_substream_ids o)) (known_list (substream_channels_of element.config) known)
+    ∙ ticks_same codec unit n element.audio_substream_ids (stream_channels element.config) planes count wide hold within
+
+pub coded_few : (codec : CodecConfigFields) (unit : UnitValue) (n : ℕ) (element : AudioElementFields) → IsSome (substream_channels_of element.config) → length (coded_samples codec unit element n) ≤ sum (stream_channels element.config)
+unfolding coded_samples
+coded_few codec unit n element known =
+    let same = known_list (substream_channels_of element.config) known in
+    let few = samples_few codec unit n element.audio_substream_ids (stream_channels element.config) in
+    subst (λ o. length (flat_map (stream_samples codec unit n) (pairs_in element.audio_substream_ids o)) ≤ sum (stream_channels element.config)) (sym same) few
 
 -- ---- they have 32 bits
 
@@ -92,10 +121,12 @@ sum_is (p ∷ planes) =
 
 -- ---- frames
 
-pub frame_at : (codec : CodecConfigFields) (unit : UnitValue) (ids : List ℕ) (planes : List Rows) (i : ℕ) → length planes ≡ length ids → All (HasFrame codec unit) (zip ids (map (λ (p : Rows). p.channels) planes)) → i < length planes
-    → HasFrame codec unit (get_or ids i 0, (get_or planes i no_rows).channels)
-frame_at codec unit [] [] i e all h = absurd (omega arith)
-frame_at codec unit (id ∷ ids) [] i e all h = absurd (omega arith)
-frame_at codec unit [] (p ∷ planes) i e all h = absurd (omega arith)
-frame_at codec unit (id ∷ ids) (p ∷ planes) zero e all h = all 0 (0, 0) (omega arith)
-frame_at codec unit (id ∷ ids) (p ∷ planes) (suc i) e all h = frame_at codec unit ids planes i (omega arith) (λ k d low. all (suc k) d (omega arith)) (omega arith)
+pub frame_at : (codec : CodecConfigFields) (unit : UnitValue) (ids counts : List ℕ) (planes : List Rows) (i : ℕ) → length planes ≤ length ids → map (λ (p : Rows). p.channels) planes ≡ take (length planes) counts
+    → All (HasFrame codec unit) (zip ids counts) → i < length planes → HasFrame codec unit (get_or ids i 0, (get_or planes i no_rows).channels)
+frame_at codec unit ids counts [] i e wide all h = absurd (omega arith)
+frame_at codec unit [] counts (p ∷ planes) i e wide all h = absurd (omega arith)
+frame_at codec unit (id ∷ ids) [] (p ∷ planes) i e wide all h = absurd (cc)
+frame_at codec unit (id ∷ ids) (count ∷ counts) (p ∷ planes) zero e wide all h = let same : count ≡ p.channels = cc in subst (λ (k : ℕ). HasFrame codec unit (id, k)) same (all 0 (0, 0) (omega arith))
+frame_at codec unit (id ∷ ids) (count ∷ counts) (p ∷ planes) (suc i) e wide all h =
+    let others : map (λ (p : Rows). p.channels) planes ≡ take (length planes) counts = cc in
+    frame_at codec unit ids counts planes i (omega arith) others (λ k d low. all (suc k) d (omega arith)) (omega arith)

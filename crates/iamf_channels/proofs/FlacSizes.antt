@@ -1,23 +1,22 @@
 -- The samples of a FLAC frame have the bits of its depth.
-use Rattle.std.proofs.Common.{arith, ◌≡◌, ◌<◌, ◌≤◌, ◌+◌, ◌-◌, ◌*◌, ◌/◌, ◌^◌, ◌⊎◌, inl, inr, ℕ, zero, suc, ℤ, pos, negsuc, ◌+ℤ◌, ◌*ℤ◌, unsigned_abs, Bool, true, false, not, ◌||◌, ◌&&◌, nat_lt, List, [], ◌∷◌, ◌++◌, length, get_or, map, refl, sym, ap, subst, ◌∙◌}
-use Rattle.std.specs.Prelude.{slice_index_or, neg_ℤ, int_le, int_lt}
-use Rattle.std.proofs.lemmas.Bool.{eqb-true, ltb-true, ltb-false, not-false}
+use Rattle.std.proofs.Common.{arith, ◌≡◌, ◌<◌, ◌≤◌, ◌+◌, ◌-◌, ◌*◌, ◌/◌, ◌^◌, ℕ, zero, suc, ℤ, pos, negsuc, ◌+ℤ◌, unsigned_abs, Bool, true, false, ◌||◌, ◌&&◌, List, [], ◌∷◌, ◌++◌, length, get_or, refl, subst}
+use Rattle.std.specs.Prelude.{neg_ℤ, int_le, int_lt}
+use Rattle.std.proofs.lemmas.Bool.{ltb-true, not-false}
 use Rattle.std.proofs.lemmas.List.{length-map, get_or-map}
 use Rattle.std.proofs.lemmas.Int.{ints}
 use Rattle.std.proofs.Math.Nat.{pow-le-pow_right}
-use Rattle.spec_bits.specs.Bits.{FitsSigned, all_bits}
-use Rattle.spec_bits.specs.Form.{Number, Signed}
-use Rattle.spec_bits.proofs.Outcomes.{both_true}
+use Rattle.spec_bits.specs.Bits.{FitsSigned}
+use Rattle.spec_bits.specs.Form.{Signed}
 use Rattle.spec_syntax.specs.Syntax.{Syntax, field, each, in_turn}
 use Rattle.spec_syntax.specs.Payload.{FieldValue}
 use Rattle.spec_syntax.proofs.Fields.{Has, field_step, end_step, choice_step, check_step, bind_step}
 use Rattle.spec_flac.specs.declared.fault.FlacFault.{FlacFault}
 use Rattle.spec_flac.specs.declared.shape.FlacShape.{FlacShape}
 use Rattle.spec_flac.specs.Residual.{is_sample, sample, samples, plain_residual, coded_residual, partition, partitions, residual}
-use Rattle.spec_flac.specs.Subframe.{verbatim, predicted, half_of, linear, weights, weighted, linear_prediction, constant, copies, content, fixed, fixed_coefficients, order_of, subframe, subframe_kind, wasted_bits, scaled}
+use Rattle.spec_flac.specs.Subframe.{verbatim, predicted, half_of, linear, weights, weighted, constant, content, fixed, order_of, subframe, subframe_kind, wasted_bits, scaled}
 use Rattle.spec_flac.specs.Header.{header}
-use Rattle.spec_flac.specs.Frame.{frame, channels, one_channel, two_channels, left_and_right, left_of, right_of, paired, has_other, frame_end, first_depth, second_depth, IsFrame}
-use Rattle.flac_subframes.specs.Rows.{AreWithin, AreBelow}
+use Rattle.spec_flac.specs.Frame.{frame, channels, one_channel, two_channels, left_and_right, left_of, paired, has_other, frame_end, first_depth, second_depth, IsFrame}
+use Rattle.flac_subframes.specs.Rows.{AreWithin}
 use Rattle.flac_subframes.proofs.PredictedSubframes.{within_half, copies_within}
 use Rattle.flac_subframes.proofs.WholeSubframes.{within_scaled}
 

@@ -1,16 +1,15 @@
 -- What is known of an element of a rendition that is played.
-use Rattle.std.proofs.Common.{arith, ◌≡◌, ◌<◌, ◌≤◌, ◌+◌, ℕ, zero, suc, refl, sym, ap, subst, ◌∙◌, Bool, true, false, not, ◌||◌, ◌&&◌, if◌then◌else◌, nat_lt, List, [], ◌∷◌, ◌++◌, length, map, Option, Some, None, slice_get}
-use Rattle.std.specs.Prelude.{◌==◌, sum_by, unwrap_or}
+use Rattle.std.proofs.Common.{arith, ◌≡◌, ◌≤◌, ℕ, zero, suc, refl, sym, ap, subst, ◌∙◌, false, not, ◌||◌, ◌&&◌, if◌then◌else◌, nat_lt, List, [], ◌∷◌, length, Option, Some, None, slice_get}
+use Rattle.std.specs.Prelude.{◌==◌, unwrap_or}
 use Rattle.std.specs.List.{list_any, flat_map}
 use Rattle.std.proofs.lemmas.Bool.{eqb-true, not-false, ltb-false}
 use Rattle.spec_layouts.specs.Layouts.{channels}
 use Rattle.spec_descriptors.specs.AudioElement.{ConfigFields, Scalable, Ambisonics, Other, AudioElementFields, coded_channels_of}
 use Rattle.spec_descriptors.specs.MixPresentation.{SubMixFields, MixPresentationFields}
 use Rattle.spec_descriptors.proofs.ElementCounts.{sum_by-first}
-use Rattle.spec_demix.specs.Scenes.{outputs_of}
 use Rattle.spec_rules.specs.Units.{is_none_of}
 use Rattle.spec_values.specs.Value.{ObuValue}
-use Rattle.spec_play.specs.declared.fault.PlayFault.TheVariants.{MixShape, GainRange}
+use Rattle.spec_play.specs.declared.fault.PlayFault.TheVariants.{GainRange}
 use Rattle.spec_play.specs.declared.target.Target.{Target}
 use Rattle.spec_play.specs.declared.target.Target.TheVariants as target
 use Rattle.spec_play.specs.Mixes.{MixedElement, Rendition, rendition, rendition_of_sub_mixes, rendition_of_mix, rendition_of, mix_of, unit_of}

@@ -1,5 +1,5 @@
 -- The layers up to one transmit as many channels as its layout has, so all layers transmit no fewer.
-use Rattle.std.proofs.Common.{arith, ◌≡◌, ◌≤◌, ◌+◌, ◌*◌, ℕ, zero, suc, refl, sym, ap, subst, ◌∙◌, Bool, true, false, not, ◌||◌, ◌&&◌, List, [], ◌∷◌, ◌++◌, length, Option, Some, None}
+use Rattle.std.proofs.Common.{arith, ◌≡◌, ◌≤◌, ◌+◌, ◌*◌, ℕ, zero, suc, refl, ap, subst, Bool, true, false, ◌||◌, ◌&&◌, List, [], ◌∷◌, ◌++◌, length, Option, Some, None}
 use Rattle.std.specs.Prelude.{sum, sum_by, ◌==◌}
 use Rattle.std.specs.List.{list_any}
 use Rattle.std.proofs.lemmas.Bool.{eqb-true, not-false}
@@ -13,10 +13,10 @@ use Rattle.spec_layouts.specs.Transmitted.{pairs_of, singles_of}
 use Rattle.spec_layouts.proofs.Counts.{first_count, next_count}
 use Rattle.spec_layouts.proofs.StepTest.{allowed_decides}
 use Rattle.spec_descriptors.specs.Layers.{LayerFields, is_refused, are_other, layer_at, layer_of, layer_after, layer_in, last_layout, output_gain, scalable_config}
-use Rattle.spec_descriptors.specs.AudioElement.{ConfigFields, Scalable, Ambisonics, Other, AudioElementFields, element_front, parameter_in, scalable_of, ambisonics_of, other_config, config_of, audio_element, layer_channels}
+use Rattle.spec_descriptors.specs.AudioElement.{ConfigFields, Scalable, AudioElementFields, element_front, parameter_in, scalable_of, ambisonics_of, other_config, config_of, audio_element, layer_channels}
 use Rattle.spec_descriptors.specs.Ambisonics.{ambisonics_config}
 use Rattle.spec_descriptors.specs.ElementFields.{audio_element_fields}
-use Rattle.spec_descriptors.proofs.ElementCounts.{Each, IsCoupled, CountsHold, valid_counts, both_counts, sum-layer_channels, sum_by-first}
+use Rattle.spec_descriptors.proofs.ElementCounts.{CountsHold, valid_counts, both_counts, sum-layer_channels, sum_by-first}
 
 -- channels of the layout below
 abbrev below : Option Layout → ℕ

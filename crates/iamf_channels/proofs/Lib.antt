@@ -4,6 +4,7 @@ mod CodedRows
 mod FirstElement
 mod FlacSizes
 mod FrameLengths
+mod FrontChannels
 mod FrameRows
 mod HeardRenditions
 mod LayerCounts

@@ -1,17 +1,15 @@
 -- The demixing parameters of an element from one unit to the next.
-use Rattle.std.proofs.Common.{arith, ◌≡◌, ◌<◌, ◌≤◌, ◌+◌, ℕ, zero, suc, refl, sym, ap, subst, ◌∙◌, Bool, true, false, ◌&&◌, ◌||◌, if◌then◌else◌, List, [], ◌∷◌, map, take, length, get_or, Option, Some, None, is_none, inl, inr}
-use Rattle.std.specs.Prelude.{IfSome, fold}
+use Rattle.std.proofs.Common.{arith, ◌≡◌, ◌<◌, ◌+◌, ℕ, zero, suc, refl, sym, ap, subst, ◌∙◌, true, false, List, [], ◌∷◌, map, take, length, get_or, Option, Some, None, slice_get}
+use Rattle.std.specs.Prelude.{IfSome}
 use Rattle.std.specs.Option.{option_to_list}
 use Rattle.std.specs.List.{list_any}
 use Rattle.std.proofs.lemmas.List.Sums.{fold_more}
-use Rattle.std.proofs.lemmas.Bool.{cases_lt}
-use Rattle.spec_gains.specs.declared.DemixMode.{DemixMode}
+use Rattle.std.proofs.lemmas.Option.{get_or_from_slice_get}
 use Rattle.spec_gains.specs.Modes.{mode_of}
 use Rattle.spec_gains.specs.Weights.{weight_of}
 use Rattle.spec_descriptors.specs.AudioElement.{AudioElementFields}
 use Rattle.spec_sequence.specs.Parts.{UnitValue}
 use Rattle.spec_play.specs.Mixes.{Rendition, no_unit, unit_of}
-use Rattle.spec_play.specs.UsedLayers.{used_layers, need_parameters}
 use Rattle.spec_play.specs.DemixingOverTime.{unit_modes, index_after_modes, index_after, any_parameters, defined_parameters, parameters_by, parameters_in, demixing_of}
 use Rattle.spec_play.specs.DemixingOverTime as fields
 use Rattle.spec_play.specs.Selection.{is_reserved, uses_reserved, has_reserved, needs_parameters}
@@ -20,9 +18,13 @@ use Rattle.demix_channels.specs.declared.params.DemixParams.{DemixParams}
 use Rattle.iamf_elements.specs.declared.demixing.DemixingDefinition.{DemixingDefinition}
 use Rattle.iamf_elements.specs.DemixingView.{view_demixing}
 use Rattle.iamf_channels.specs.declared.parameters.Demixing.{Demixing}
-use Rattle.iamf_channels.specs.Parameters.{AreParameters, HasParameters, IsUnreserved, AreUnreserved, IsIndex, unit_parameters, HasDemixing}
+use Rattle.iamf_channels.specs.Parameters.{AreParameters, HasParameters, AreUnreserved, IsIndex, unit_parameters, HasDemixing}
 
 -- ---- modes
+
+-- the mode that is found in a unit is the first of the unit's modes
+pub mode_found : (units : List UnitValue) (id u : ℕ) (unit : UnitValue) (mode : Option ℕ) → slice_get units u ≡ Some unit → option_to_list mode ≡ take 1 (unit_modes id unit) → option_to_list mode ≡ take 1 (unit_modes id (get_or units u no_unit))
+mode_found units id u unit mode there is = is ∙ ap (λ (v : UnitValue). take 1 (unit_modes id v)) (sym (get_or_from_slice_get units u unit no_unit there))
 
 pub below_eight : (mode : ℕ) → is_reserved mode ≡ false → mode < 8
 below_eight zero e = omega arith

@@ -1,42 +1,42 @@
 -- An element that is played, and what it gives at a tick.
-use Rattle.std.proofs.Common.{arith, ◌≡◌, ◌<◌, ◌≤◌, ◌+◌, ◌-◌, ◌^◌, ℕ, zero, suc, ℤ, false, List, [], ◌∷◌, map, length, get_or, Option, Some, None, unsigned_abs, refl, sym, ap, subst, ◌∙◌}
-use Rattle.std.specs.Prelude.{sum, sum_by, unwrap_or, option_map}
-use Rattle.std.specs.List.{All, flat_map}
+use Rattle.std.proofs.Common.{arith, ◌≡◌, ◌<◌, ◌≤◌, ◌+◌, ◌-◌, ◌^◌, ℕ, ℤ, false, List, [], ◌∷◌, ◌++◌, map, take, length, length-append, get_or, Option, unsigned_abs, refl, sym, ap, subst, ◌∙◌}
+use Rattle.std.specs.Prelude.{sum, sum_by, unwrap_or}
+use Rattle.std.specs.List.{All, flat_map, list_any}
 use Rattle.std.proofs.lemmas.List.{length-map}
-use Rattle.spec_layouts.specs.declared.Layout.{Layout}
-use Rattle.spec_layouts.specs.Layouts.{channels}
+use Rattle.std.proofs.lemmas.List.Sums.{sum_by-take-le}
 use Rattle.spec_descriptors.specs.Layers.{LayerFields}
-use Rattle.spec_descriptors.specs.AudioElement.{ConfigFields, Scalable, Ambisonics, AudioElementFields, layer_channels, substream_channels_of, coded_channels_of}
+use Rattle.spec_descriptors.specs.AudioElement.{ConfigFields, AudioElementFields, coded_channels_of}
 use Rattle.spec_demix.specs.declared.DemixLayer.{DemixLayer}
 use Rattle.demix_layers.proofs.WholeScenes.{valid_are_whole}
 use Rattle.obu_descriptors.specs.declared.audio_element.AudioElement.{AudioElement}
 use Rattle.obu_descriptors.specs.ElementView.{view_element}
-use Rattle.spec_values.specs.Value.{ObuValue}
 use Rattle.spec_sequence.specs.Parts.{UnitValue}
 use Rattle.spec_sequence.specs.Reading.{values_of}
 use Rattle.spec_play.specs.declared.target.Target.{Target}
-use Rattle.spec_play.specs.Mixes.{MixedElement, Rendition, unit_length, unit_of, no_unit}
-use Rattle.spec_play.specs.UsedLayers.{is_of}
+use Rattle.spec_play.specs.declared.target.Target.TheVariants as target
+use Rattle.spec_play.specs.Mixes.{Rendition, unit_length, unit_of, no_unit}
+use Rattle.spec_play.specs.UsedLayers.{used_layers}
 use Rattle.spec_play.specs.CodedSamples.{coded_samples}
 use Rattle.spec_play.specs.DemixingOverTime.{parameters_in}
-use Rattle.spec_play.specs.Waves.{channel_count, wave_shape}
-use Rattle.spec_play.specs.Selection.{lacks_layer}
+use Rattle.spec_play.specs.Waves.{wave_shape}
+use Rattle.spec_play.specs.Selection.{lacks_layer, is_output_gain_above}
 use Rattle.spec_play.specs.Exact.{Place}
 use Rattle.spec_play.specs.FixedMix.{fixed_channel, fixed_channel_in}
-use Rattle.spec_play.specs.Laws.{HasFrame}
-use Rattle.spec_play.proofs.ChainsUpTo.{is_its}
+use Rattle.spec_play.specs.Laws.{HasFrame, IsHearable}
 use Rattle.iamf_bits.specs.Rows.{Rows}
 use Rattle.iamf_mixing.specs.Ticks.{tick_of}
 use Rattle.iamf_channels.specs.declared.parameters.Demixing.{Demixing}
 use Rattle.iamf_channels.specs.Heard.{ChannelsValue, Hears, codec_in, units_in, unit_in}
 use Rattle.iamf_channels.specs.Decoded.{no_rows, Holds}
 use Rattle.iamf_channels.specs.Parameters.{HasDemixing, AreSound}
-use Rattle.iamf_channels.specs.Playing.{IsKernelOf, HasRows, HaveFrames, HasBegun, IsPlaying}
+use Rattle.iamf_channels.specs.Playing.{IsKernelOf, IsPlaying}
 use Rattle.iamf_channels.specs.Adding.{CanAdd, added}
 use Rattle.iamf_channels.proofs.HeardRenditions.{IsOfMix, of_heard, same_channel, IsSoundFor, sound_at, own_count, count_at, few_at}
-use Rattle.iamf_channels.proofs.LayerCounts.{layers_suffice}
+use Rattle.iamf_channels.specs.Needed.{needed, stream_channels}
+use Rattle.iamf_channels.proofs.FrontChannels.{IsFront, same_channel_in}
+use Rattle.iamf_channels.proofs.StreamCounts.{is_known, total_is}
 use Rattle.iamf_channels.proofs.RowLists.{same_default, same_at}
-use Rattle.iamf_channels.proofs.CodedRows.{AreLonger, coded_same, coded_small, ticks_count, sum_is}
+use Rattle.iamf_channels.proofs.CodedRows.{AreLonger, samples_after, coded_same, coded_few, coded_small, ticks_count, sum_is}
 use Rattle.iamf_channels.proofs.AddedChannels.{HasRoom, can_add, added_is}
 
 -- ---- renditions
@@ -63,7 +63,7 @@ pub count_of : (v : ChannelsValue) (r : Rendition) → Hears v r → (wave_shape
 count_of v r h =
     count_at r h.place h.mixed h.playable h.there ∙ ap (λ (e : AudioElementFields). own_count r.target e.config) h.element_is ∙ ap (λ t. own_count t v.element.config) (target_is v r h)
 
-few_of : (v : ChannelsValue) (r : Rendition) → Hears v r → unwrap_or (coded_channels_of v.element.config) 0 ≤ 28
+pub few_of : (v : ChannelsValue) (r : Rendition) → Hears v r → unwrap_or (coded_channels_of v.element.config) 0 ≤ 28
 few_of v r h = subst (λ (e : AudioElementFields). unwrap_or (coded_channels_of e.config) 0 ≤ 28) h.element_is (few_at r h.place h.mixed h.playable h.there)
 
 -- ---- rows
@@ -79,36 +79,44 @@ rows_longer v kernel d planes row r n p h below = λ i there.
 
 -- ---- a tick
 
+none_left : (ys : List ℤ) → length ys ≤ 0 → ys ≡ []
+none_left [] h = refl
+none_left (y ∷ ys) h = absurd (omega arith)
+
+is_front : (played : Target) (config : ConfigFields) (front rest all : List ℤ) → all ≡ front ++ rest → needed played config ≤ length front → length all ≤ sum (stream_channels config) → IsFront played rest
+is_front (target.Layer layout) config front rest all is enough most = tt
+is_front target.Scene config front rest all is enough most =
+    let long : length all ≡ length front + length rest = ap (λ (ys : List ℤ). length ys) is ∙ length-append front rest in
+    let total = total_is config in
+    none_left rest (omega arith)
+
 pub tick_small : (v : ChannelsValue) (kernel : Option (List DemixLayer)) (d : Demixing) (planes : List Rows) (row : List ℤ) (n u : ℕ) → IsPlaying v kernel d planes row → v.begun ≡ u + 1 → AreLonger n planes
     → All (λ y. unsigned_abs y ≤ 2 ^ 31) (flat_map (tick_of n) planes)
 tick_small v kernel d planes row n u p e longer = coded_small p.heard.codec (unit_of p.heard u) n v.element.audio_substream_ids planes (p.last u e).held longer
 
-coded_count : (v : ChannelsValue) (planes : List Rows) (n : ℕ) → substream_channels_of v.element.config ≡ Some (map (λ (p : Rows). p.channels) planes) → coded_channels_of v.element.config ≡ Some (length (flat_map (tick_of n) planes))
-coded_count v planes n known = ap (option_map (λ (cs : List ℕ). sum cs)) known ∙ ap (λ (k : ℕ). Some k) (sum_is planes ∙ sym (ticks_count n planes))
+coded_most : (v : ChannelsValue) (kernel : Option (List DemixLayer)) (d : Demixing) (planes : List Rows) (row : List ℤ) (n : ℕ) → IsPlaying v kernel d planes row → length (flat_map (tick_of n) planes) ≤ unwrap_or (coded_channels_of v.element.config) 0
+coded_most v kernel d planes row n p =
+    let some = sum_by-take-le (λ (x : ℕ). x) (stream_channels v.element.config) (length planes) in
+    let own : sum_by (λ (q : Rows). q.channels) planes ≡ sum (take (length planes) (stream_channels v.element.config)) = sym (sum_is planes) ∙ ap (λ (cs : List ℕ). sum cs) p.rows.channels in
+    let all = total_is v.element.config in
+    omega (arith, ticks_count n planes)
 
 pub tick_few : (v : ChannelsValue) (kernel : Option (List DemixLayer)) (d : Demixing) (planes : List Rows) (row : List ℤ) (n : ℕ) → IsPlaying v kernel d planes row → length (flat_map (tick_of n) planes) ≤ 255
 tick_few v kernel d planes row n p =
     let few : unwrap_or (coded_channels_of v.element.config) 0 ≤ 28 = few_of v p.heard p.is_heard in
-    let all = coded_count v planes n p.rows.channels in
-    let same : unwrap_or (coded_channels_of v.element.config) 0 ≡ length (flat_map (tick_of n) planes) = ap (λ (o : Option ℕ). unwrap_or o 0) all in
-    omega arith
+    omega (arith, coded_most v kernel d planes row n p)
 
-some_list : (xs ys : List ℕ) → Some xs ≡ Some ys → xs ≡ ys
-some_list xs ys e = cc
+coded_enough : (v : ChannelsValue) (kernel : Option (List DemixLayer)) (d : Demixing) (planes : List Rows) (row : List ℤ) (n : ℕ) → IsPlaying v kernel d planes row → needed v.target v.element.config ≤ length (flat_map (tick_of n) planes)
+coded_enough v kernel d planes row n p = let enough = p.rows.enough in omega (arith, ticks_count n planes)
 
 has_room : (v : ChannelsValue) (kernel : Option (List DemixLayer)) (d : Demixing) (planes : List Rows) (row : List ℤ) (r : Rendition) (n sums : ℕ) → IsPlaying v kernel d planes row → Hears v r → sums ≡ (wave_shape r).channels
     → HasRoom v.target v.element.config (length (flat_map (tick_of n) planes)) sums
 has_room v kernel d planes row r n sums p h counted = record {
   there = subst (λ (t : Target). lacks_layer t v.element.config ≡ false) (target_is v r h) (sound_of v r h).there;
   counted = counted ∙ count_of v r h;
-  enough = λ layers layout is some.
-      let valid = h.valid in
-      let most : length (channels layout) ≤ sum (layer_channels layers) = layers_suffice valid.0 v.element layers layout (is_of layout) valid.1 is (is_its layout) some in
-      let same : layer_channels layers ≡ map (λ (q : Rows). q.channels) planes = some_list (layer_channels layers) _ (sym (ap substream_channels_of is) ∙ p.rows.channels) in
-      let count : sum (layer_channels layers) ≡ length (flat_map (tick_of n) planes) = ap (λ (cs : List ℕ). sum cs) same ∙ sum_is planes ∙ sym (ticks_count n planes) in
-      omega arith;
+  enough = coded_enough v kernel d planes row n p;
   whole = λ scene is. valid_are_whole h.valid.0 v.element scene h.valid.1 is;
-  all = coded_count v planes n p.rows.channels;
+  most = coded_most v kernel d planes row n p;
 }
 
 pub tick_can : (v : ChannelsValue) (kernel : Option (List DemixLayer)) (d : Demixing) (planes : List Rows) (row : List ℤ) (e : AudioElement) (r : Rendition) (n sums : ℕ) → IsPlaying v kernel d planes row → v.element ≡ view_element e → Hears v r
@@ -132,12 +140,23 @@ tick_value v kernel d planes row e r q n u c sums p is begun longer k counted h 
     let own : added kernel e.config d.params coded c ≡ fixed_channel_in v.target (view_element e).config (parameters_in heard v.element (v.begun - 1)) coded c =
     added_is v.target e.config (length e.substreams.items) kernel d.params (parameters_in heard v.element (v.begun - 1)) coded c (subst (λ (x : AudioElementFields). IsKernelOf v.target x.config kernel) is p.kernel_is)
     (subst (λ (x : AudioElementFields). lacks_layer v.target x.config ≡ false) is there) (p.demixing.last (v.begun - 1) known) (subst (λ (x : AudioElementFields). c < own_count v.target x.config) is within) in
-    let tick : coded ≡ coded_samples heard.codec (unit_of heard (v.begun - 1)) v.element n =
-    coded_same heard.codec (unit_of heard (v.begun - 1)) n v.element planes p.rows.count p.rows.channels (p.last (v.begun - 1) known).held longer in
+    let sound = sound_of v heard p.is_heard in
+    let known_streams = is_known v.element.config sound.known in
+    let all = coded_samples heard.codec (unit_of heard (v.begun - 1)) v.element n in
+    let others = samples_after heard.codec (unit_of heard (v.begun - 1)) v.element n (length planes) in
+    let tick : all ≡ coded ++ others = coded_same heard.codec (unit_of heard (v.begun - 1)) n v.element planes known_streams p.rows.count p.rows.channels (p.last (v.begun - 1) known).held longer in
+    let enough = coded_enough v kernel d planes row n p in
+    let most = coded_few heard.codec (unit_of heard (v.begun - 1)) n v.element known_streams in
+    let front = is_front v.target v.element.config coded others all tick enough most in
+    let played = target_is v heard p.is_heard in
+    let hearable = subst IsHearable played sound.hearable in
+    let low = subst (λ (t : Target). list_any (λ (layer : LayerFields). is_output_gain_above layer.gain) (used_layers t v.element.config) ≡ false) played sound.low in
+    let same = same_channel_in v.target v.element.config (parameters_in heard v.element (v.begun - 1)) coded others c hearable sound.chain there low enough front in
     own
     ∙ ap (λ (x : AudioElementFields). fixed_channel_in v.target x.config (parameters_in heard v.element (v.begun - 1)) coded c) (sym is)
-    ∙ ap (λ (t : Target). fixed_channel_in t v.element.config (parameters_in heard v.element (v.begun - 1)) coded c) (sym (target_is v heard p.is_heard))
-    ∙ ap (λ (zs : List ℤ). fixed_channel_in heard.target v.element.config (parameters_in heard v.element (v.begun - 1)) zs c) tick
+    ∙ same
+    ∙ ap (λ (zs : List ℤ). fixed_channel_in v.target v.element.config (parameters_in heard v.element (v.begun - 1)) zs c) (sym tick)
+    ∙ ap (λ (t : Target). fixed_channel_in t v.element.config (parameters_in heard v.element (v.begun - 1)) all c) (sym played)
     ∙ same_channel (values_of v.sequence.entries) v.target heard r place v.element (of_value v heard p.is_heard) (of_value v r h)
 
 -- ---- another unit
@@ -162,8 +181,9 @@ next_playing v kernel d after planes made row u p e below wide long holds steps 
       demixing = steps heard v.element units demixing;
       sound = sound;
       rows = record {
-        count = count ∙ p.rows.count;
-        channels = p.rows.channels ∙ ap (λ (ns : List ℕ). Some ns) (sym wide);
+        count = let few = p.rows.count in omega arith;
+        channels = wide ∙ p.rows.channels ∙ ap (λ (k : ℕ). take k (stream_channels v.element.config)) (sym count);
+        enough = subst (λ (k : ℕ). needed v.target v.element.config ≤ k) (sym (sum_is planes) ∙ ap (λ (ns : List ℕ). sum ns) (sym wide) ∙ sum_is made) p.rows.enough;
         lengths = λ i there. sym (same_at (λ (q : Rows). q.length) planes made i long (omega arith)) ∙ p.rows.lengths i (omega arith);
       };
       depth = p.depth;

@@ -1,5 +1,5 @@
 -- Samples of linear PCM have 32 bits.
-use Rattle.std.proofs.Common.{arith, ◌≡◌, ◌<◌, ◌≤◌, ◌+◌, ◌*◌, ◌/◌, ◌^◌, ℕ, ℤ, pos, negsuc, IsTrue, true, List, length, unsigned_abs, refl, sym, ap, subst, ◌∙◌, Bool}
+use Rattle.std.proofs.Common.{arith, ◌≡◌, ◌<◌, ◌≤◌, ◌+◌, ◌*◌, ◌/◌, ◌^◌, ℕ, ℤ, pos, negsuc, IsTrue, List, length, unsigned_abs, Bool}
 use Rattle.std.proofs.Math.Nat.{pow-le-pow_right}
 use Rattle.spec_bits.specs.Bits.{FitsSigned}
 use Rattle.spec_samples.specs.Lpcm.{frame_bytes, is_depth, sample_place, sample}

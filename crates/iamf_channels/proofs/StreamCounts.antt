@@ -1,12 +1,13 @@
 -- A substream has one channel or two.
-use Rattle.std.proofs.Common.{arith, ◌≡◌, ◌<◌, ◌≤◌, ◌-◌, ℕ, false, zero, suc, List, [], ◌∷◌, ◌++◌, Option, Some, None, length, get_or, slice_get, refl, subst}
-use Rattle.std.specs.Prelude.{replicate, option_and_then, unwrap_or, IsSome}
+use Rattle.std.proofs.Common.{arith, ◌≡◌, ◌<◌, ◌≤◌, ◌-◌, ℕ, false, zero, suc, List, [], ◌∷◌, Option, Some, None, length, get_or, slice_get, refl, subst}
+use Rattle.std.specs.Prelude.{sum, replicate, option_and_then, option_map, unwrap_or, IsSome}
 use Rattle.spec_descriptors.specs.Layers.{LayerFields}
 use Rattle.spec_descriptors.specs.Ambisonics.{Mono, Projection}
-use Rattle.spec_descriptors.specs.AudioElement.{ConfigFields, Scalable, Ambisonics, Other, AudioElementFields, audio_element, coupled_first, layer_channels, substream_channels_of}
+use Rattle.spec_descriptors.specs.AudioElement.{ConfigFields, Scalable, Ambisonics, Other, AudioElementFields, audio_element, coupled_first, layer_channels, substream_channels_of, coded_channels_of}
 use Rattle.spec_syntax.specs.Payload.{IsValid}
 use Rattle.spec_descriptors.specs.ElementFields.{audio_element_fields}
 use Rattle.spec_descriptors.proofs.ElementCounts.{valid_counts, channels_fit}
+use Rattle.iamf_channels.specs.Needed.{stream_channels}
 use Rattle.std.proofs.lemmas.Option.{slice_get-get_or, get_or_from_slice_get}
 use Rattle.spec_play.specs.Selection.{is_unknown}
 use Rattle.spec_play.proofs.Tests.{Each, each_both}
@@ -67,3 +68,7 @@ is_known (Scalable layers) e = refl
 is_known (Ambisonics (Mono outputs substreams mapping)) e = refl
 is_known (Ambisonics (Projection outputs substreams coupled matrix)) e = refl
 is_known (Other kind bytes) e = absurd (cc)
+
+-- all channels of the substreams are the coded channels
+pub total_is : (config : ConfigFields) → unwrap_or (coded_channels_of config) 0 ≡ sum (stream_channels config)
+total_is config = elim (substream_channels_of config) as (λ o. unwrap_or (option_map (λ (cs : List ℕ). sum cs) o) 0 ≡ sum (unwrap_or o [])) [ Some cs ↦ refl | None ↦ refl ]

@@ -1,5 +1,5 @@
 -- The frame that the code finds, and decodes by what it keeps of the codec config.
-use Rattle.std.proofs.Common.{◌≡◌, ℕ, IsTrue, List, Option, Some, None, refl, sym, ap, subst, ◌∙◌}
+use Rattle.std.proofs.Common.{◌≡◌, ℕ, IsTrue, List, Option, Some, None, sym, ap, subst, ◌∙◌}
 use Rattle.std.specs.Prelude.{◌==◌, find}
 use Rattle.std.specs.Borrow.{Bor}
 use Rattle.spec_samples.specs.Lpcm.{is_depth}

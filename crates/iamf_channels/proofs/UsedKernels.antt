@@ -1,26 +1,25 @@
 -- The layers that a kernel demixes, and its channels.
-use Rattle.std.proofs.Common.{arith, ◌≡◌, ◌≢◌, ◌<◌, ◌≤◌, ◌≤ℤ◌, negsuc, ◌-◌, ◌+◌, ℕ, zero, suc, ℤ, pos, refl, sym, ap, subst, ◌∙◌, Bool, true, false, not, ◌||◌, List, [], ◌∷◌, map, length, Option, Some, None, get_or, slice_get, nat_lt, option_map}
+use Rattle.std.proofs.Common.{arith, ◌≡◌, ◌<◌, ◌≤ℤ◌, negsuc, ◌-◌, ℕ, zero, suc, ℤ, pos, ap, ◌∙◌, true, false, List, [], ◌∷◌, map, length, Option, Some, None, get_or, slice_get, option_map}
 use Rattle.std.specs.List.{list_any}
 use Rattle.std.proofs.lemmas.Int.{ints}
 use Rattle.std.proofs.lemmas.Bool.{not-false, ltb-false}
 use Rattle.std.proofs.lemmas.List.{length-map, get_or-map}
-use Rattle.spec_layouts.specs.declared.Channel.{Channel}
 use Rattle.spec_layouts.specs.declared.Channel.TheVariants as channel
 use Rattle.spec_layouts.specs.declared.Layout.{Layout}
 use Rattle.spec_layouts.specs.Layouts.{channels}
-use Rattle.spec_descriptors.specs.Layers.{LayerFields, OutputGainFields}
+use Rattle.spec_descriptors.specs.Layers.{LayerFields}
 use Rattle.spec_descriptors.specs.AudioElement.{ConfigFields, Scalable, Ambisonics, Other}
 use Rattle.spec_gains.specs.Modes.{Coefficients}
 use Rattle.spec_demix.specs.declared.DemixLayer.{DemixLayer}
 use Rattle.spec_demix.specs.Elements.{demix_layer_of, demix_layers_of}
-use Rattle.spec_demix.specs.Sent.{IsLayers, layer_at}
+use Rattle.spec_demix.specs.Sent.{IsLayers}
 use Rattle.spec_demix.specs.Fits.{target_channels}
 use Rattle.spec_demix.specs.FixedWalk.{fixed_row, fixed_value}
 use Rattle.mix_fixed.specs.Kernel.{target_of}
 use Rattle.obu_descriptors.specs.declared.layer.Layer.{Layer}
 use Rattle.obu_descriptors.specs.declared.layer.OutputGain.{OutputGain}
 use Rattle.obu_descriptors.specs.LayerView.{view_gain, view_layer}
-use Rattle.demix_channels.specs.Gains.{IsModestGain, IsModestLayer, HaveModestGains}
+use Rattle.demix_channels.specs.Gains.{IsModestGain, IsModestLayer}
 use Rattle.spec_play.specs.declared.target.Target.{Target}
 use Rattle.spec_play.specs.declared.target.Target.TheVariants as target
 use Rattle.spec_play.specs.UsedLayers.{is_of, layers_up_to, used_layers, last_of, channel_of_layout}
@@ -31,7 +30,7 @@ use Rattle.spec_play.proofs.ChainsUpTo.{last_has, layers_allowed}
 
 -- ---- gains
 
-not_above : (gain : ℤ) → is_above gain ≡ false → gain ≤ℤ pos 8192
+pub not_above : (gain : ℤ) → is_above gain ≡ false → gain ≤ℤ pos 8192
 not_above (pos n) e = let low = ltb-false 8192 n e in omega (arith, ints)
 not_above (negsuc n) e = omega (arith, ints)
 

@@ -1,5 +1,5 @@
 -- Frames that a player can decode, and rows that hold their samples.
-use Rattle.std.specs.Prelude.{◌≡◌, ℕ, ◌+◌, ◌<◌, ◌≤◌, ◌^◌, ◌==◌, ◌⊎◌, IsTrue, ℤ, pos, List, [], length, find, Some, slice_index_or, unsigned_abs}
+use Rattle.std.specs.Prelude.{◌≡◌, ℕ, ◌<◌, ◌≤◌, ◌^◌, ◌⊎◌, IsTrue, ℤ, pos, List, [], length, slice_index_or, unsigned_abs}
 use Rattle.spec_samples.specs.Lpcm.{frame_bytes, is_depth, sample}
 use Rattle.spec_flac.specs.declared.shape.FlacShape.{FlacShape}
 use Rattle.spec_flac.specs.Frame.{IsFrame}

@@ -1,5 +1,5 @@
 -- One element of a sequence as it is played for a target.
-use Rattle.std.specs.Prelude.{◌≡◌, ℕ, List, Option, Some, slice_get, slice_index_or}
+use Rattle.std.specs.Prelude.{◌≡◌, ℕ, List, Some, slice_get, slice_index_or}
 use Rattle.spec_syntax.specs.Payload.{IsValid}
 use Rattle.spec_descriptors.specs.CodecConfig.{CodecConfigFields}
 use Rattle.spec_descriptors.specs.AudioElement.{AudioElementFields, audio_element}

@@ -3,3 +3,4 @@ pub mod Heard
 pub mod Decoded
 pub mod Parameters
 pub mod Playing
+pub mod Needed

@@ -10,13 +10,13 @@ ghost use Rattle.iamf_channels.specs.Heard.{IsHeard, Hears, units_in};
 use crate::adding::add_tick;
 use crate::frames::decode_unit;
 use crate::parameters::{Demixing, first_demixing, next_demixing};
-use crate::reserving::{kernel_of, reserve};
+use crate::reserving::{kernel_of, needed_channels, reserve};
 use iamf_bits::Planes;
 use iamf_elements::used_layers;
 use iamf_mixing::coded_row;
 use iamf_sequence::Sequence;
 use mix_fixed::Kernel;
-use obu_descriptors::{AudioElement, coded_channels};
+use obu_descriptors::AudioElement;
 use spec_play::Target;
 use std::alloc::{AllocError, Global};
 use std::marker::Model;
@@ -41,7 +41,7 @@ pub struct ElementChannels<'s, 'a> {
     /// `None` for an ambisonics element.
     kernel: Option<Kernel>,
     demixing: Demixing,
-    /// The samples of a unit: rows for the channels of each substream.
+    /// The samples of a unit: rows for the channels of each substream that the target needs.
     planes: Vec<Planes>,
     /// The coded samples of one tick.
     coded: Vec<i64>,
@@ -74,12 +74,10 @@ impl<'s, 'a> ElementChannels<'s, 'a> {
         let _ = sequence.bytes();
         let kernel = kernel_of(used_layers(target, element));
         let demixing = first_demixing(target, element);
-        let planes = reserve(alloc, element, sequence.codec().frame_length as usize)?;
-        let count = match coded_channels(element) {
-            Some(count) => count as usize,
-            None => unreachable!(),
-        };
-        let coded = vec![in alloc; 0i64; count]?;
+        let needed = needed_channels(target, element);
+        let frame_length = sequence.codec().frame_length as usize;
+        let (planes, channels) = reserve(alloc, element, needed, frame_length)?;
+        let coded = vec![in alloc; 0i64; channels]?;
         Ok(ElementChannels {
             sequence,
             element,

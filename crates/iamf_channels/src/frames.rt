@@ -73,7 +73,7 @@ fn decode_stream(sequence: &Sequence<'_>, u: usize, substream: u32, rows: &mut P
     }
 }
 
-/// Decodes the frames that unit `u` has of some substreams, each into its planes.
+/// Decodes the frames that unit `u` has of the first substreams, each into its planes.
 pub(crate) fn decode_unit(
     sequence: &Sequence<'_>,
     u: usize,
@@ -81,7 +81,7 @@ pub(crate) fn decode_unit(
     planes: &mut [Planes],
 )
     requires unit { u < length (units_in sequence.now) }
-    requires count { length planes.old ≡ length substreams.now }
+    requires count { length planes.old ≤ length substreams.now }
     requires lengths { (i : ℕ) → i < length planes.old → (slice_index_or planes.old i no_rows).length ≡ (codec_in sequence.now).num_samples_per_frame }
     requires depth { IsTrue (is_depth (role_of_codec (codec_in sequence.now)).depth) }
     requires whole { (i : ℕ) → i < length planes.old → HasFrame (codec_in sequence.now) (unit_in sequence.now u) (slice_index_or substreams.now i 0, (slice_index_or planes.old i no_rows).channels) }
@@ -89,7 +89,7 @@ pub(crate) fn decode_unit(
     ensures channels { map (λ p. p.channels) planes.new ≡ map (λ p. p.channels) planes.old }
     ensures lengths { map (λ p. p.length) planes.new ≡ map (λ p. p.length) planes.old }
 {
-    for i in 0..substreams.len() {
+    for i in 0..planes.len() {
         decode_stream(sequence, u, substreams[i], &mut planes[i]);
     }
 }

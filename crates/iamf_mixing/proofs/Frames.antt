@@ -1,18 +1,25 @@
--- One sample that is set in rows.
-use Rattle.std.proofs.Common.{arith, ◌≡◌, ◌≢◌, ◌<◌, ◌+◌, ◌*◌, ℕ, ℤ, length, get_or-set_same, get_or-set_other, refl, ◌⊎◌}
-use Rattle.std.proofs.Math.Logic.{⊎_elim}
-use Rattle.std.proofs.lemmas.Nat.{mul-add-lt, same_from_place}
-use Rattle.iamf_bits.specs.Rows.{Rows, sample_of, with_sample}
+-- The rows of a frame, one after the other.
+use Rattle.std.proofs.Common.{arith, ◌≡◌, ◌<◌, ◌≤◌, ◌+◌, ◌*◌, ◌++◌, ℕ, ℤ, pos, List, length, take, get_or, below_more, sym, ap, ◌∙◌}
+use borrow.Rule.Slice.PartMut.{put_mid, post_of}
+use Rattle.std.proofs.lemmas.List.{length-take-le, get_or-take, get_or_append_left, get_or-append-add}
+use Rattle.std.proofs.lemmas.Nat.{mul-add-lt}
 
-pub sample_set : (rows : Rows) (c n : ℕ) (z : ℤ) → c < rows.channels → n < rows.length → length rows.samples ≡ rows.channels * rows.length → sample_of (with_sample rows c n z) c n ≡ z
-sample_set rows c n z h k whole =
-    let below : c * rows.length + n < rows.length * rows.channels = mul-add-lt c rows.length n rows.channels h k in
-    let there : c * rows.length + n < length rows.samples = omega arith in
-    rw get_or-set_same refl
+before_part : (xs ys : List ℤ) (a end i : ℕ) → i < a → a ≤ length xs → get_or (put_mid a end xs ys) i (pos 0) ≡ get_or xs i (pos 0)
+before_part xs ys a end i h room =
+    let long = length-take-le a xs room in
+    let within : i < length (take a xs) = omega arith in
+    get_or_append_left (take a xs) (ys ++ post_of a end xs) (pos 0) i within ∙ get_or-take a xs i (pos 0) h
 
-pub other_sample : (rows : Rows) (c n d m : ℕ) (z : ℤ) → n < rows.length → m < rows.length → (d ≢ c) ⊎ (m ≢ n) → sample_of (with_sample rows c n z) d m ≡ sample_of rows d m
-other_sample rows c n d m z h k other =
-    let ne : d * rows.length + m ≢ c * rows.length + n = λ e.
-    let same = same_from_place d m c n rows.length k h e in
-    ⊎_elim (λ (p : d ≢ c). p same.0) (λ (p : m ≢ n). p same.1) other in
-    rw get_or-set_other refl
+in_part : (xs ys : List ℤ) (a end j : ℕ) → j < length ys → a ≤ length xs → get_or (put_mid a end xs ys) (a + j) (pos 0) ≡ get_or ys j (pos 0)
+in_part xs ys a end j h room =
+    let long = length-take-le a xs room in
+    ap (λ (k : ℕ). get_or (put_mid a end xs ys) (k + j) (pos 0)) (sym long) ∙ get_or-append-add (take a xs) (ys ++ post_of a end xs) j (pos 0) ∙ get_or_append_left ys (post_of a end xs) (pos 0) j h
+
+-- one row more
+pub row_more : (xs ys : List ℤ) (c ticks end : ℕ) (f : ℕ → ℕ → ℤ) → (c + 1) * ticks ≤ length xs → length ys ≡ ticks → ((d m : ℕ) → d < c → m < ticks → get_or xs (d * ticks + m) (pos 0) ≡ f m d)
+    → ((m : ℕ) → m < ticks → get_or ys m (pos 0) ≡ f m c) → (d m : ℕ) → d < c + 1 → m < ticks → get_or (put_mid (c * ticks) end xs ys) (d * ticks + m) (pos 0) ≡ f m d
+row_more xs ys c ticks end f room long before here = λ d m low within.
+    below_more (λ e. (k : ℕ) → k < ticks → get_or (put_mid (c * ticks) end xs ys) (e * ticks + k) (pos 0) ≡ f k e) c
+    (λ e less k h. let below = mul-add-lt e ticks k c less h in before_part xs ys (c * ticks) end (e * ticks + k) (omega arith) (omega arith) ∙ before e k less h)
+    (λ k h. in_part xs ys (c * ticks) end k (omega arith) (omega arith) ∙ here k h)
+    d low m within

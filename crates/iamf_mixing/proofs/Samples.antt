@@ -1,5 +1,5 @@
 -- Samples one after the other as bytes.
-use Rattle.std.proofs.Common.{arith, ◌≡◌, ◌<◌, ◌≤◌, ◌+◌, ◌*◌, ◌/◌, ℕ, zero, suc, ℤ, pos, refl, sym, ap, ◌∙◌, List, [], ◌∷◌, ◌++◌, length, get_or, map, take, drop, append_assoc, append-nil, length-append}
+use Rattle.std.proofs.Common.{arith, ◌≡◌, ◌<◌, ◌≤◌, ◌+◌, ◌*◌, ◌/◌, ℕ, zero, suc, ℤ, pos, refl, sym, ap, ◌∙◌, List, [], ◌∷◌, ◌++◌, length, get_or, map, take, drop, append_assoc, append-nil, length-append, take-append-drop}
 use Rattle.std.specs.List.{flat_map, range_with_len}
 use Rattle.std.proofs.Math.ListN.{set}
 use Rattle.std.proofs.lemmas.List.FromFn.{length-map-range_with_len, map-range_with_len_more}
@@ -59,3 +59,14 @@ tick_more before row at c f z h is value =
     ap (λ r. set r (at + c) z) split ∙ set_at (front ++ done) y rest z (at + c) long ∙ append_assoc front done (z ∷ rest)
     ∙ ap (λ ys. front ++ ys) (sym (append_assoc done (z ∷ []) rest)) ∙ ap (λ w. front ++ ((done ++ w ∷ []) ++ rest)) value ∙ ap (λ ys. front ++ (ys ++ rest)) (sym next)
     ∙ ap (λ k. front ++ (map f (range_with_len 0 (c + 1)) ++ drop k before)) on
+
+tick_of_none : (before : List ℤ) (at : ℕ) (f : ℕ → ℤ) → before ≡ take at before ++ (map f (range_with_len 0 0) ++ drop (at + 0) before)
+tick_of_none before at f = let same : at ≡ at + 0 = omega arith in sym (take-append-drop at before) ∙ ap (λ k. take at before ++ drop k before) same
+
+pub tick_of_one : (before : List ℤ) (at : ℕ) (f : ℕ → ℤ) (z : ℤ) → at < length before → z ≡ f 0 → set before at z ≡ take at before ++ (map f (range_with_len 0 1) ++ drop (at + 1) before)
+tick_of_one before at f z h value =
+    let same : at ≡ at + 0 = omega arith in
+    ap (λ k. set before k z) same ∙ tick_more before before at 0 f z (omega arith) (tick_of_none before at f) value
+
+pub tick_of_two : (before : List ℤ) (at : ℕ) (f : ℕ → ℤ) (y z : ℤ) → at + 1 < length before → y ≡ f 0 → z ≡ f 1 → set (set before at y) (at + 1) z ≡ take at before ++ (map f (range_with_len 0 2) ++ drop (at + 2) before)
+tick_of_two before at f y z h first second = tick_more before (set before at y) at 1 f z h (tick_of_one before at f y (omega arith) first) second

@@ -1,11 +1,11 @@
 -- Equal fractions have equal floors.
-use Rattle.std.proofs.Common.{arith, ◌≡◌, ◌<◌, ◌≤◌, ◌*◌, ◌^◌, ℕ, ℤ, pos, ◌+ℤ◌, ◌*ℤ◌, ◌≤ℤ◌, ◌<ℤ◌, unsigned_abs, List, length, refl, sym, ap, ◌∙◌}
+use Rattle.std.proofs.Common.{arith, ◌≡◌, ◌<◌, ℕ, ℤ, pos, ◌+ℤ◌, ◌*ℤ◌, ◌≤ℤ◌, ◌<ℤ◌, unsigned_abs, List, length, sym, ap, ◌∙◌}
 use Rattle.std.proofs.lemmas.Int.{ints}
 use Rattle.spec_descriptors.specs.Ambisonics.{AmbisonicsFields, Mono, Projection}
 use Rattle.spec_descriptors.specs.Ambisonics as fields
 use Rattle.spec_demix.specs.declared.Fraction.{Fraction}
 use Rattle.spec_demix.specs.Floor.{floor_of, unit}
-use Rattle.spec_demix.specs.Scenes.{scene_top, scene_bottom, IsScene}
+use Rattle.spec_demix.specs.Scenes.{scene_top, scene_bottom}
 use Rattle.spec_demix.proofs.FloorLemmas.{floor-low, floor-high, distribute, mul-ordered, swapped, swapped_left}
 use Rattle.demix_layers.proofs.Floors.{int_ordered}
 use Rattle.demix_layers.specs.SceneView.{IsPlayed, IsOutput}

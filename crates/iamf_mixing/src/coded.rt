@@ -1,6 +1,6 @@
 //! Coded samples of a frame, in rows of planes, and those of a tick.
 
-ghost use Rattle.std.specs.Prelude.{◌≡◌, ◌≢◌, ℕ, ◌+◌, ◌<◌, ◌≤◌, ◌++◌, All, IsTrue, length, map, sum_by, take, drop};
+ghost use Rattle.std.specs.Prelude.{◌≡◌, ℕ, ◌+◌, ◌<◌, ◌≤◌, ◌++◌, All, IsTrue, length, map, pos, slice_index_or, sum_by, take, drop};
 ghost use Rattle.std.specs.List.{flat_map};
 ghost use Rattle.iamf_bits.specs.Rows.{sample_of};
 ghost use Rattle.spec_samples.specs.Lpcm.{frame_bytes, is_depth, sample};
@@ -9,20 +9,52 @@ ghost use Rattle.iamf_mixing.specs.Ticks.{tick_of};
 use iamf_bits::Planes;
 use lpcm_sub::sample;
 
-/// Reads one channel of a frame of linear PCM into its row.
-fn read_channel(bytes: &[u8], little: bool, depth: u8, c: usize, rows: &mut Planes)
+/// Reads channel `c` of a frame of linear PCM of so many channels into a row.
+#[inline(always)]
+fn read_row(bytes: &[u8], little: bool, depth: u8, channels: usize, c: usize, row: &mut [i64])
     requires depth { IsTrue (is_depth depth) }
-    requires channel { c < rows.old.channels }
+    requires channel { c < channels }
+    requires whole { length bytes.now ≡ frame_bytes (length row.old) channels depth }
+    ensures { (n : ℕ) → n < length row.old → slice_index_or row.new n (pos 0) ≡ sample bytes.now little depth channels n c }
+{
+    for n in 0..row.len() {
+        let value = sample(bytes, little, depth, channels, n, c);
+        row[n] = i64::from(value);
+    }
+}
+
+/// Reads each channel of a frame of linear PCM into its row. Where the order and the depth are literals, the code is made for
+/// them.
+#[inline(always)]
+fn read_rows(bytes: &[u8], little: bool, depth: u8, rows: &mut Planes)
+    requires depth { IsTrue (is_depth depth) }
     requires whole { length bytes.now ≡ frame_bytes rows.old.length rows.old.channels depth }
-    ensures here { (n : ℕ) → n < rows.old.length → sample_of rows.new c n ≡ sample bytes.now little depth rows.old.channels n c }
-    ensures others { (d n : ℕ) → d ≢ c → n < rows.old.length → sample_of rows.new d n ≡ sample_of rows.old d n }
+    ensures samples { (c n : ℕ) → c < rows.old.channels → n < rows.old.length → sample_of rows.new c n ≡ sample bytes.now little depth rows.old.channels n c }
     ensures channels { rows.new.channels ≡ rows.old.channels }
     ensures length { rows.new.length ≡ rows.old.length }
 {
     let channels = rows.channels();
-    for n in 0..rows.length() {
-        let value = sample(bytes, little, depth, channels, n, c);
-        rows.set(c, n, i64::from(value));
+    let ticks = rows.length();
+    let samples = rows.samples_mut();
+    for c in 0..channels {
+        let row = &mut samples[c * ticks..(c + 1) * ticks];
+        read_row(bytes, little, depth, channels, c, row);
+    }
+}
+
+/// Reads a frame of a depth in one of the byte orders.
+#[inline(always)]
+fn read_depth(bytes: &[u8], little: bool, depth: u8, rows: &mut Planes)
+    requires depth { IsTrue (is_depth depth) }
+    requires whole { length bytes.now ≡ frame_bytes rows.old.length rows.old.channels depth }
+    ensures samples { (c n : ℕ) → c < rows.old.channels → n < rows.old.length → sample_of rows.new c n ≡ sample bytes.now little depth rows.old.channels n c }
+    ensures channels { rows.new.channels ≡ rows.old.channels }
+    ensures length { rows.new.length ≡ rows.old.length }
+{
+    match depth {
+        16 => read_rows(bytes, little, 16, rows),
+        24 => read_rows(bytes, little, 24, rows),
+        _ => read_rows(bytes, little, 32, rows),
     }
 }
 
@@ -35,8 +67,10 @@ pub fn read_lpcm(bytes: &[u8], little: bool, depth: u8, rows: &mut Planes)
     ensures channels { rows.new.channels ≡ rows.old.channels }
     ensures length { rows.new.length ≡ rows.old.length }
 {
-    for c in 0..rows.channels() {
-        read_channel(bytes, little, depth, c, rows);
+    if little {
+        read_depth(bytes, true, depth, rows);
+    } else {
+        read_depth(bytes, false, depth, rows);
     }
 }
 
@@ -46,8 +80,17 @@ fn put_tick(planes: &Planes, n: usize, at: usize, row: &mut [i64])
     requires room { at + planes.now.channels ≤ length row.old }
     ensures { row.new ≡ take at row.old ++ (tick_of n planes.now ++ drop (at + planes.now.channels) row.old) }
 {
-    for c in 0..planes.channels() {
-        row[at + c] = planes.at(c, n);
+    match planes.channels() {
+        1 => row[at] = planes.at(0, n),
+        2 => {
+            row[at] = planes.at(0, n);
+            row[at + 1] = planes.at(1, n);
+        }
+        channels => {
+            for c in 0..channels {
+                row[at + c] = planes.at(c, n);
+            }
+        }
     }
 }
 

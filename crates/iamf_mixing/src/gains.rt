@@ -8,12 +8,10 @@ ghost use Rattle.obu_data.specs.BlockView.{view_gain_part};
 ghost use Rattle.spec_play.specs.GainsOverTime.{part_gain, subblock_durations};
 ghost use Rattle.iamf_mixing.specs.Rows.{timed_block, gain_over};
 
+use crate::sums::ONE;
 use iamf_tables::gain;
 use obu_data::GainPart;
 use obu_descriptors::Fixed;
-
-/// The gain where a block has no subblock.
-const ONE: u64 = 1_000_000_000_000;
 
 /// A straight line between two gains.
 #[derive(Clone, Copy)]

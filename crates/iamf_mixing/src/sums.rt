@@ -12,8 +12,8 @@ ghost use Rattle.spec_play.specs.FixedMix.{gained};
 use demix_channels::DemixParams;
 use mix_fixed::{Kernel, apply_gain};
 
-/// The gain of 0 dB.
-const ONE: u64 = 1_000_000_000_000;
+/// The gain of 0 dB, in parts of 10^12.
+pub(crate) const ONE: u64 = 1_000_000_000_000;
 
 /// A channel times a gain.
 #[inline]

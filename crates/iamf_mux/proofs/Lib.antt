@@ -1,5 +1,7 @@
 pub mod Gathers
 pub mod ObuBytes
 pub mod OneObu
+pub mod Runs
+pub mod Fed
 pub mod Movies
 pub mod BareSize

@@ -18,7 +18,8 @@ use Rattle.obu_header.specs.declared.view.ObuView.{ObuView}
 use Rattle.obu_header.specs.View.{head_of}
 use Rattle.iamf_sequence.specs.Places.{IsObuAt}
 use Rattle.iamf_sequence.specs.SequenceValue.{SequenceValue, IsRead}
-use Rattle.iamf_mux.specs.Gathering.{Slices, no_slices, with_obu, AreObusOf, IsGathered, IsGatheredUpTo, IsGatheredOf}
+use Rattle.iamf_mux.specs.declared.gathered.Gathered.{Gathered}
+use Rattle.iamf_mux.specs.Gathering.{Slices, slices_of, no_slices, with_obu, AreObusOf, IsGathered, IsGatheredUpTo, IsGatheredOf}
 use Rattle.iamf_mux.proofs.Gathers.{IsLastOrNext, gathers, at_last, total}
 use Rattle.iamf_mux.proofs.ObuBytes.{Splits, Admits, StandsAt, stands_at}
 
@@ -78,11 +79,11 @@ on_ok (Err e) p step = tt
 
 -- ---- none, and all
 
-pub begun_of : (v : SequenceValue) (s : Slices) → IsRead v.bytes v.entries → s ≡ no_slices → IsGatheredUpTo v 0 s
-begun_of v s is none = let found = obus_of v is in record { obus = found.0; are = found.1; gathered = subst (λ (x : Slices). IsGathered x []) (sym none) gathered_none }
+pub begun_of : (v : SequenceValue) (g : Gathered) → g.bytes.now ≡ v.bytes → IsRead v.bytes v.entries → slices_of g ≡ no_slices → IsGatheredUpTo v 0 g
+begun_of v g same is none = let found = obus_of v is in record { same = same; obus = found.0; are = found.1; gathered = subst (λ (x : Slices). IsGathered x []) (sym none) gathered_none }
 
-pub ended_of : (v : SequenceValue) (i : ℕ) (s : Slices) → i ≡ length v.entries → IsGatheredUpTo v i s → IsGatheredOf v s
-ended_of v i s end g = record { obus = g.obus; are = g.are; gathered = all_at v g.obus s i g.are end g.gathered }
+pub ended_of : (v : SequenceValue) (i : ℕ) (g : Gathered) → i ≡ length v.entries → IsGatheredUpTo v i g → IsGatheredOf v (slices_of g)
+ended_of v i g end h = record { obus = h.obus; are = h.are; gathered = all_at v h.obus (slices_of g) i h.are end h.gathered }
 
 pub if_ok : {T E : Type 0} {P Q : T → Type 0} (r : Result T E) → IfOk r P → ((x : T) → P x → Q x) → IfOk r Q
 if_ok (Ok x) p step = step x p

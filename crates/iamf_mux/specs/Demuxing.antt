@@ -7,12 +7,29 @@ use Rattle.spec_boxes.specs.Rules.{first_of, rules}
 use Rattle.spec_boxes.specs.Code.{code_of}
 use Rattle.spec_boxes.specs.Laws.{BoxRefuses}
 use Rattle.spec_bodies.specs.SequenceFile.{IsBareOf}
+use Rattle.spec_files.specs.Body.{rebuilt}
+use Rattle.mp4_boxes.specs.declared.track.Track.{Track}
+use Rattle.mp4_boxes.specs.TrackViews.{track_seen}
 use Rattle.iamf_mux.specs.declared.demuxing.DemuxError.{DemuxError}
 use Rattle.iamf_mux.specs.declared.demuxing.DemuxError.TheVariants as errors
 
--- The bare sequence, which reads; the first rule on boxes that fails; or why the bare sequence does not read.
+-- The bare sequence of a track.
+abbrev pub bare : Track → List ℕ
+bare t = rebuilt (track_seen t).config (track_seen t).samples
+
+-- Why the file gives no sequence: the first rule on boxes that fails, or why the bare sequence does not read.
+abbrev pub IsNoBare : List ℕ → DemuxError → Type 0
+IsNoBare f (errors.Box r) = BoxRefuses f r.at (code_of r.fault) × (first_of (rules true f) ≡ Some r)
+IsNoBare f (errors.Inner r) = (bytes : List ℕ) × IsBareOf f bytes × Refuses bytes r.at r.fault
+IsNoBare f (errors.Memory e) = Unit {0}
+
+-- What has the bare sequence as its bytes, which read; or why there is none.
+abbrev pub Finds : {V : Type 0} → (V → List ℕ) → List ℕ → Result V DemuxError → Type 0
+Finds bytes_of f (Ok v) = IsBareOf f (bytes_of v) × (s : List ObuValue) × Reads (bytes_of v) s
+Finds bytes_of f (Err error) = IsNoBare f error
+
 abbrev pub Demuxes : List ℕ → Result (Vec ℕ Global) DemuxError → Type 0
-Demuxes f (Ok v) = IsBareOf f v.items × (s : List ObuValue) × Reads v.items s
-Demuxes f (Err (errors.Box r)) = BoxRefuses f r.at (code_of r.fault) × (first_of (rules true f) ≡ Some r)
-Demuxes f (Err (errors.Inner r)) = (bytes : List ℕ) × IsBareOf f bytes × Refuses bytes r.at r.fault
-Demuxes f (Err (errors.Memory e)) = Unit {0}
+Demuxes f r = Finds (λ v. v.items) f r
+
+abbrev pub FindsBare : List ℕ → Result Track DemuxError → Type 0
+FindsBare f r = Finds bare f r

@@ -1,5 +1,5 @@
 -- What is gathered of a sequence for its file, OBU by OBU.
-use Rattle.std.specs.Prelude.{◌≡◌, ℕ, ◌+◌, ◌==◌, Bool, not, ◌&&◌, if◌then◌else◌, List, [], ◌∷◌, ◌++◌, length, map, take, slice_index, slice_set, Option, Some, None}
+use Rattle.std.specs.Prelude.{◌≡◌, ℕ, ◌+◌, ◌==◌, Bool, not, ◌&&◌, if◌then◌else◌, List, [], ◌∷◌, ◌++◌, length, map, take, slice_index, slice_range, slice_set, Option, Some, None}
 use Rattle.spec_obu.specs.Kinds.{obu_type_of, is_descriptor}
 use Rattle.spec_obu.specs.Header.{Head}
 use Rattle.spec_boxes.specs.ObuLists.{delimits}
@@ -16,8 +16,13 @@ pub record Slices : Type 0 where
   pub units : List ℕ
   pub unit_lengths : List ℕ
 
+-- the last slice of the units stands apart from the others
 abbrev pub slices_of : Gathered → Slices
-slices_of g = record { descriptors = joined g.descriptors.items; units = joined g.units.items; unit_lengths = g.unit_lengths.items }
+slices_of g = record {
+  descriptors = joined g.descriptors.items;
+  units = joined g.units.items ++ slice_range g.bytes.now g.start g.end;
+  unit_lengths = g.unit_lengths.items;
+}
 
 abbrev pub no_slices : Slices
 no_slices = record { descriptors = []; units = []; unit_lengths = [] }
@@ -25,6 +30,10 @@ no_slices = record { descriptors = []; units = []; unit_lengths = [] }
 -- the next unit is begun
 abbrev pub with_unit : ℕ → Slices → Slices
 with_unit unit s = if unit == length s.unit_lengths then record { descriptors = s.descriptors; units = s.units; unit_lengths = s.unit_lengths ++ 0 ∷ [] } else s
+
+-- more bytes of the units
+abbrev pub with_bytes : List ℕ → Slices → Slices
+with_bytes bytes s = record { descriptors = s.descriptors; units = s.units ++ bytes; unit_lengths = s.unit_lengths }
 
 abbrev pub with_data : ℕ → List ℕ → Slices → Slices
 with_data unit bytes s = record {
@@ -53,11 +62,12 @@ pub record IsGathered (s : Slices) (os : List Spelled) : Type 0 where
   pub units_are : s.units ≡ flat_map (λ (u : List ℕ). u) (units os)
   pub lengths_are : s.unit_lengths ≡ map length (units os)
 
--- What is gathered is the body of the first so many OBUs of a sequence, or of all of them.
-pub record IsGatheredUpTo (v : SequenceValue) (i : ℕ) (s : Slices) : Type 0 where
+-- What is gathered of the bytes of a sequence is the body of its first so many OBUs, or of all of them.
+pub record IsGatheredUpTo (v : SequenceValue) (i : ℕ) (g : Gathered) : Type 0 where
+  pub same : g.bytes.now ≡ v.bytes
   pub obus : List Spelled
   pub are : AreObusOf v obus
-  pub gathered : IsGathered s (take i obus)
+  pub gathered : IsGathered (slices_of g) (take i obus)
 
 pub record IsGatheredOf (v : SequenceValue) (s : Slices) : Type 0 where
   pub obus : List Spelled

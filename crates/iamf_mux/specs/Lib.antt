@@ -1,3 +1,5 @@
 pub mod Gathering
 pub mod Rates
 pub mod Demuxing
+pub mod FileOf
+pub mod Feeding

@@ -7,5 +7,5 @@ mod muxing;
 #[cfg(test)]
 mod tests;
 
-pub use demuxing::{DemuxError, demux};
-pub use muxing::mux;
+pub use demuxing::{DemuxError, demux, sequence_track};
+pub use muxing::{FileParts, file_parts, mux};

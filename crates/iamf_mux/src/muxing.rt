@@ -7,42 +7,43 @@ ghost use Rattle.spec_sequence.specs.Reading.{values_of, roles};
 ghost use Rattle.spec_boxes.specs.Laws.{Holds};
 ghost use Rattle.spec_bodies.specs.SequenceBody.{HasSequenceBody};
 ghost use Rattle.spec_bodies.specs.SequenceFile.{starts, IsFileOf};
+ghost use Rattle.spec_files.specs.MovieFile.{file};
+ghost use Rattle.mp4_file.specs.Slices.{joined};
+ghost use Rattle.mp4_file.specs.Views.{movie_of};
 ghost use Rattle.iamf_mux.specs.Gathering.{slices_of, IsGatheredUpTo, IsGatheredOf};
+ghost use Rattle.iamf_mux.specs.FileOf.{file_of};
 ghost use Rattle.iamf_mux.specs.Rates.{rate_in};
 
 use crate::gathered::Gathered;
 use iamf_sequence::Sequence;
-use mp4_file::{Movie, write_movie};
+use mp4_file::{Movie, write_front, write_movie};
 use obu_descriptors::Coding;
 use std::alloc::{AllocError, Global};
 
-// OBU `i` is gathered after those before it. `bytes` are those of the sequence.
-fn put<'a>(
-    gathered: &mut Gathered<'a>,
-    sequence: &Sequence<'a>,
-    bytes: &'a [u8],
-    i: usize,
-) -> Result<(), AllocError>
-    requires same { bytes.now ≡ sequence.now.bytes }
+// OBU `i` is gathered after those before it.
+fn put(gathered: &mut Gathered<'_>, sequence: &Sequence<'_>, i: usize) -> Result<(), AllocError>
     requires below { i < length sequence.now.entries }
     requires small { length sequence.now.bytes ≤ 2 ^ 30 }
-    requires so_far { IsGatheredUpTo sequence.now i (slices_of gathered.old) }
-    ensures { OnOk result (IsGatheredUpTo sequence.now (i + 1) (slices_of gathered.new)) }
+    requires so_far { IsGatheredUpTo sequence.now i gathered.old }
+    ensures { OnOk result (IsGatheredUpTo sequence.now (i + 1) gathered.new) }
 {
     let obu = sequence.obu(i);
-    let end = obu.end.min(bytes.len());
-    gathered.add(&obu.head, sequence.unit_of(i), &bytes[obu.at..end])
+    // Of a last OBU no clause says that it ends within the bytes.
+    let end = obu.end.min(sequence.bytes().len());
+    gathered.add(&obu.head, sequence.unit_of(i), obu.at, end)?;
+    Ok(())
 }
 
 fn gather<'a>(alloc: Global, sequence: &Sequence<'a>) -> Result<Gathered<'a>, AllocError>
     requires { length sequence.now.bytes ≤ 2 ^ 30 }
-    ensures { IfOk result (λ g. IsGatheredOf sequence.now (slices_of g)) }
+    ensures gathered { IfOk result (λ g. IsGatheredOf sequence.now (slices_of g)) }
+    ensures closed { IfOk result (λ g. joined g.units.items ≡ (slices_of g).units) }
 {
-    let bytes = sequence.bytes();
-    let mut gathered = Gathered::new(alloc);
+    let mut gathered = Gathered::new(alloc, sequence.bytes());
     for i in 0..sequence.count() {
-        put(&mut gathered, sequence, bytes, i)?;
+        put(&mut gathered, sequence, i)?;
     }
+    gathered.close()?;
     Ok(gathered)
 }
 
@@ -67,6 +68,26 @@ fn trimmed(sequence: &Sequence<'_>) -> u64
     total
 }
 
+// What is written of a sequence.
+fn movie<'a>(sequence: &Sequence<'_>, gathered: &'a Gathered<'_>) -> Movie<'a>
+    requires small { length sequence.now.bytes ≤ 2 ^ 30 }
+    requires gathered { IsGatheredOf sequence.now (slices_of gathered.now) }
+    requires closed { joined gathered.now.units.items ≡ (slices_of gathered.now).units }
+    ensures file { IsFileOf sequence.now.bytes (file (movie_of result)) }
+    ensures pieces { joined result.data.now ≡ joined gathered.now.units.items }
+{
+    let codec = sequence.codec();
+    Movie {
+        descriptors: &gathered.descriptors,
+        data: &gathered.units,
+        unit_lengths: &gathered.unit_lengths,
+        frame_length: codec.frame_length,
+        sample_rate: sample_rate(&codec.coding),
+        trimmed: trimmed(sequence),
+        kept: sequence.kept(),
+    }
+}
+
 /// The MP4 file of a sequence of at most 2^30 bytes: its plain descriptors, and each temporal unit as a sample, without
 /// delimiters, reserved OBUs and redundant copies (IAMF 1.0.0, "ISOBMFF IAMF Encapsulation").
 ///
@@ -79,15 +100,31 @@ pub fn mux(alloc: Global, sequence: &Sequence<'_>) -> Result<Vec<u8>, AllocError
     ensures holds { IfOk result (λ v. (d : List ℕ) × (u : List (List ℕ)) × HasSequenceBody sequence.now.bytes d u × Holds v.items d u) }
 {
     let gathered = gather(alloc, sequence)?;
-    let codec = sequence.codec();
-    let movie = Movie {
-        descriptors: &gathered.descriptors,
-        data: &gathered.units,
-        unit_lengths: &gathered.unit_lengths,
-        frame_length: codec.frame_length,
-        sample_rate: sample_rate(&codec.coding),
-        trimmed: trimmed(sequence),
-        kept: sequence.kept(),
-    };
-    write_movie(alloc, &movie)
+    write_movie(alloc, &movie(sequence, &gathered))
+}
+
+/// A file in two parts, of which the second lies in the bytes of a sequence.
+#[derive(Drop)]
+pub struct FileParts<'a> {
+    /// All that stands before the data of the samples.
+    pub front: Vec<u8>,
+    /// The data, which ends the file. What lies end to end in the sequence is one slice.
+    pub data: Vec<&'a [u8]>,
+}
+
+/// The file that `mux` answers, in parts: the units stay where they are in the sequence.
+///
+/// # Errors
+///
+/// Want of memory alone.
+pub fn file_parts<'a>(alloc: Global, sequence: &Sequence<'a>) -> Result<FileParts<'a>, AllocError>
+    requires { length sequence.now.bytes ≤ 2 ^ 30 }
+    ensures { IfOk result (λ p. IsFileOf sequence.now.bytes (file_of p)) }
+{
+    let gathered = gather(alloc, sequence)?;
+    let front = write_front(alloc, &movie(sequence, &gathered))?;
+    Ok(FileParts {
+        front,
+        data: gathered.units,
+    })
 }

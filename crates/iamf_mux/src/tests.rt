@@ -1,6 +1,6 @@
 //! Sequences written into files and read out of them.
 
-use crate::{DemuxError, demux, mux};
+use crate::{DemuxError, demux, file_parts, mux};
 use iamf_sequence::decode;
 use mp4_boxes::read_box;
 use std::alloc::{AllocError, Global};
@@ -80,6 +80,20 @@ fn what_is_written_is_read(rt: HostRuntime) -> Result<(), Fail> {
         assert!(rt; file.len() <= 1 << 30);
         assert_eq!(rt; demux(rt.alloc(), &file)?, joined(rt.alloc(), bare)?);
     }
+    Ok(())
+}
+
+#[test]
+fn what_lies_end_to_end_is_one_part_of_a_file(rt: HostRuntime) -> Result<(), Fail> {
+    let bytes = joined(rt.alloc(), &[DESCRIPTORS, LATE, FRAME, COPY, FRAME])?;
+    assert!(rt; bytes.len() <= 1 << 30);
+    let sequence = decode(rt.alloc(), &bytes)?;
+    let parts = file_parts(rt.alloc(), &sequence)?;
+    assert_eq!(rt; parts.data.len(), 2);
+    let data = joined(rt.alloc(), &parts.data)?;
+    assert_eq!(rt; data, joined(rt.alloc(), &[LATE, FRAME, FRAME])?);
+    let file = joined(rt.alloc(), &[&parts.front, &data])?;
+    assert_eq!(rt; file, mux(rt.alloc(), &sequence)?);
     Ok(())
 }
 

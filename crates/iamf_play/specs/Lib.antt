@@ -4,3 +4,4 @@ pub mod PlayedElements
 pub mod Mixing
 pub mod Reserving
 pub mod Playback
+pub mod Ending

@@ -1,6 +1,7 @@
 //! The player.
 
 ghost use Rattle.std.specs.Prelude.{◌≡◌, ℕ, ◌+◌, ◌-◌, ◌*◌, ◌<◌, ◌≤◌, IfOk, length};
+ghost use Rattle.std.specs.Borrow.{sem};
 ghost use Rattle.spec_waves.specs.Wave.{IsShape, header_bytes, pad};
 ghost use Rattle.wav_io.specs.Views.{shape_of};
 ghost use Rattle.spec_play.specs.Mixes.{Rendition};
@@ -45,6 +46,8 @@ fn pad_of(shape: WaveShape) -> usize
 }
 
 impl<'s, 'a> Player<'s, 'a> {
+    ghost use Rattle.iamf_play.specs.Ending.{EndsPlayed};
+
     /// Takes all memory that playing needs: no other call takes any. The only error is want of memory.
     pub fn new(alloc: Global, plan: Plan<'s, 'a>) -> Result<Player<'s, 'a>, AllocError>
         ensures { IfOk result (λ p. p ≡ record { plan = plan.entry; played = 0 }) }
@@ -104,7 +107,8 @@ impl<'s, 'a> Player<'s, 'a> {
     pub fn play_unit(&mut self, u: usize) -> &[u8]
         requires next { u ≡ self.old.played }
         requires unit { (r : Rendition) → IsSelected self.old.plan r → u < length r.units }
-        ensures { (r : Rendition) → IsSelected self.old.plan r → result.now ≡ unit_bytes r u }
+        ensures* ends { sem 𝓛 (EndsPlayed self.entry u) }
+        ensures bytes { (r : Rendition) → IsSelected self.old.plan r → result.now ≡ unit_bytes r u }
     {
         self.play(u);
         self.bytes()

@@ -11,8 +11,6 @@ mod refusal;
 mod respelling;
 mod sequence;
 mod summarizing;
-#[cfg(test)]
-mod tests;
 mod unit;
 mod walk;
 

@@ -72,73 +72,68 @@ fn admitted(admission: &mut Admission, bytes: &[u8]) -> u32 {
     }
 }
 
+// OBUs one after the other: what is answered, and how many are admitted after it.
+const ROWS: &[(&[u8], u32, u64)] = &[
+    (COPY, 34, 0),
+    (FRAME, 35, 0),
+    (HEADER, 0, 1),
+    (COPY, 0, 2),
+    (OTHER_COPY, 34, 2),
+    (HEADER, 37, 2),
+    (CODEC, 0, 3),
+    (CODEC, 31, 3),
+    (STEREO, 0, 4),
+    (REPEATED, 31, 4),
+    // Substream 5 of the element that was refused is not known.
+    (SECOND, 0, 5),
+    (CLASHING_MIX, 33, 5),
+    // Gain 102 of the mix that was refused is not defined.
+    (OTHER_RATE, 0, 6),
+    (MIX, 0, 7),
+    (DELIMITER, 0, 8),
+    (SHORT_FRAME, 43, 8),
+    (FRAME, 0, 9),
+    (FRAME, 38, 9),
+    (COPY, 0, 10),
+];
+
 #[test]
-fn a_fault_leaves_all_as_it_was(rt: HostRuntime) -> Result<(), Fail> {
+fn a_fault_leaves_all_as_it_was(rt: HostRuntime) {
     let mut admission = Admission::new(rt.alloc());
-    let rows: [(&[u8], u32, u64); 19] = [
-        (COPY, 34, 0),
-        (FRAME, 35, 0),
-        (HEADER, 0, 1),
-        (COPY, 0, 2),
-        (OTHER_COPY, 34, 2),
-        (HEADER, 37, 2),
-        (CODEC, 0, 3),
-        (CODEC, 31, 3),
-        (STEREO, 0, 4),
-        (REPEATED, 31, 4),
-        // Substream 5 of the element that was refused is not known.
-        (SECOND, 0, 5),
-        (CLASHING_MIX, 33, 5),
-        // Gain 102 of the mix that was refused is not defined.
-        (OTHER_RATE, 0, 6),
-        (MIX, 0, 7),
-        (DELIMITER, 0, 8),
-        (SHORT_FRAME, 43, 8),
-        (FRAME, 0, 9),
-        (FRAME, 38, 9),
-        (COPY, 0, 10),
-    ];
-    for (bytes, code, count) in rows {
+    for (row, (bytes, code, count)) in ROWS.iter().enumerate() {
         let answer = admitted(&mut admission, bytes);
-        assert_eq!(rt; answer, code, "of {bytes:?}");
-        assert_eq!(rt; admission.admitted(), count, "after {bytes:?}");
+        assert_eq!(rt; (row, answer, admission.admitted()), (row, *code, *count));
     }
-    Ok(())
+}
+
+/// The number of the first fault of the OBUs, and 0 where they are all admitted.
+fn first_fault(admission: &mut Admission, parts: &[&[u8]]) -> u32 {
+    for bytes in parts {
+        let answer = admitted(admission, bytes);
+        if answer != 0 {
+            return answer;
+        }
+    }
+    0
 }
 
 #[test]
-fn flac_frames_are_decoded(rt: HostRuntime) -> Result<(), Fail> {
+fn flac_frames_are_decoded(rt: HostRuntime) {
     let mut admission = Admission::new(rt.alloc());
-    let rows: [(&[u8], u32); 6] = [
-        (HEADER, 0),
-        (FLAC, 0),
-        (MONO, 0),
-        (MIX, 0),
-        (CUT_FRAME, 44),
-        (FLAC_FRAME, 0),
-    ];
-    for (bytes, code) in rows {
-        let answer = admitted(&mut admission, bytes);
-        assert_eq!(rt; answer, code, "of {bytes:?}");
-    }
-    assert!(rt; admission.end_fault().is_none(), "the sequence is whole");
-    Ok(())
+    let before = first_fault(&mut admission, &[HEADER, FLAC, MONO, MIX]);
+    let cut = admitted(&mut admission, CUT_FRAME);
+    let whole = admitted(&mut admission, FLAC_FRAME);
+    assert_eq!(rt; [before, cut, whole], [0, 44, 0]);
+    assert!(rt; admission.end_fault().is_none());
 }
 
 #[test]
 fn the_end_has_a_summary_or_a_fault(rt: HostRuntime) -> Result<(), Fail> {
     let mut admission = Admission::new(rt.alloc());
-    for bytes in [HEADER, CODEC, STEREO] {
-        let answer = admitted(&mut admission, bytes);
-        assert_eq!(rt; answer, 0, "of {bytes:?}");
-    }
+    assert!(rt; first_fault(&mut admission, &[HEADER, CODEC, STEREO]) == 0);
     assert!(rt; matches!(admission.end_fault(), Some(Fault::Incomplete)));
-    for bytes in [MIX, FRAME, FRAME] {
-        let answer = admitted(&mut admission, bytes);
-        assert_eq!(rt; answer, 0, "of {bytes:?}");
-    }
-    let summary = admission.end()?;
-    let text = report(rt.alloc(), &summary)?;
+    assert!(rt; first_fault(&mut admission, &[MIX, FRAME, FRAME]) == 0);
+    let text = report(rt.alloc(), &admission.end()?)?;
     assert_eq!(rt;
         text.as_slice(),
         b"profile 1 1\ncodec 0 ipcm 8 48000 16\nelement 1 scalable 1 2\nmix 2 1 1 fits\nunits 2\nsamples 16\n".as_slice()
@@ -146,25 +141,29 @@ fn the_end_has_a_summary_or_a_fault(rt: HostRuntime) -> Result<(), Fail> {
     Ok(())
 }
 
+// OBUs one after the other: whether each is handed out, and its unit.
+const TAKEN: &[(&[u8], bool, Option<u64>)] = &[
+    (HEADER, true, None),
+    (COPY, false, None),
+    (CODEC, true, None),
+    (STEREO, true, None),
+    (MIX, true, None),
+    (DELIMITER, true, Some(0)),
+    (FRAME, true, Some(0)),
+    (DELIMITER, true, Some(1)),
+];
+
 #[test]
 fn what_was_read_is_handed_out(rt: HostRuntime) -> Result<(), Fail> {
     let mut admission = Admission::new(rt.alloc());
-    let rows: [(&[u8], bool, Option<u64>); 8] = [
-        (HEADER, true, None),
-        (COPY, false, None),
-        (CODEC, true, None),
-        (STEREO, true, None),
-        (MIX, true, None),
-        (DELIMITER, true, Some(0)),
-        (FRAME, true, Some(0)),
-        (DELIMITER, true, Some(1)),
-    ];
-    for (bytes, says, unit) in rows {
+    for (row, (bytes, says, unit)) in TAKEN.iter().enumerate() {
         assert!(rt; bytes.len() > 0 && admission.admitted() < 1000);
         let obu = read_obu(bytes, 0)?;
         let answer = admission.take(&obu)?;
-        assert_eq!(rt; answer.content.is_some(), says, "of {bytes:?}");
-        assert_eq!(rt; answer.unit, unit, "of {bytes:?}");
+        assert_eq!(rt;
+            (row, answer.content.is_some(), answer.unit),
+            (row, *says, *unit)
+        );
     }
     Ok(())
 }

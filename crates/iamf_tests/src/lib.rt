@@ -1,5 +1,5 @@
-//! Tests of the rules of a sequence, of the admission of OBUs and of the report. They stand apart, since a crate with tests is
-//! proved twice.
+//! Tests of the rules of a sequence, of the admission of OBUs, of sequences and of the report. They stand apart, since a crate
+//! with tests is proved twice.
 #![tactic(auto)]
 
 #[cfg(test)]
@@ -8,3 +8,5 @@ mod admission;
 mod report;
 #[cfg(test)]
 mod rules;
+#[cfg(test)]
+mod sequences;

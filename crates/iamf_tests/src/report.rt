@@ -15,28 +15,24 @@ use std::process::Abort;
 use std::test::Fail;
 
 // Element 1: one layer, stereo, of one substream of two channels.
-const STEREO: [u8; 10] = [0x01, 0x00, 0x00, 0x01, 0x00, 0x00, 0x20, 0x10, 0x01, 0x01];
+const STEREO: &[u8] = b"\x01\x00\x00\x01\x00\x00\x20\x10\x01\x01";
 
 // Element 300: four ambisonics channels, of three substreams of one channel each; the last channel is silent.
-const SCENE: [u8; 16] = [
-    0xac, 0x02, 0x20, 0x00, 0x03, 0x01, 0x02, 0x03, 0x00, 0x00, 0x04, 0x03, 0x00, 0x01, 0x02, 0xff,
-];
+const SCENE: &[u8] = b"\xac\x02\x20\x00\x03\x01\x02\x03\x00\x00\x04\x03\x00\x01\x02\xff";
 
 // Element 3: four ambisonics channels by a matrix, of two substreams of two channels each.
-const PROJECTION: [u8; 43] = [
-    0x03, 0x20, 0x00, 0x02, 0x04, 0x05, 0x00, 0x01, 0x04, 0x02, 0x02, 0x7f, 0xff, 0x00, 0x00, 0x00,
-    0x00, 0x00, 0x00, 0x00, 0x00, 0x7f, 0xff, 0x00, 0x00, 0x00, 0x00, 0x00, 0x00, 0x00, 0x00, 0x7f,
-    0xff, 0x00, 0x00, 0x00, 0x00, 0x00, 0x00, 0x00, 0x00, 0x7f, 0xff,
-];
+const PROJECTION: &[u8] = b"\x03\x20\x00\x02\x04\x05\x00\x01\x04\x02\x02\
+    \x7f\xff\x00\x00\x00\x00\x00\x00\x00\x00\x7f\xff\x00\x00\x00\x00\x00\x00\
+    \x00\x00\x7f\xff\x00\x00\x00\x00\x00\x00\x00\x00\x7f\xff";
 
 // Element 4: of type 2, which is kept unread, with two substreams and a configuration of one byte.
-const UNREAD: [u8; 9] = [0x04, 0x40, 0x00, 0x02, 0x06, 0x07, 0x00, 0x01, 0xaa];
+const UNREAD: &[u8] = b"\x04\x40\x00\x02\x06\x07\x00\x01\xaa";
 
 // A mix gain of 0 dB: parameter 100, at 48000 ticks a second, whose blocks say how long they last.
-const GAIN: [u8; 7] = [0x64, 0x80, 0xf7, 0x02, 0x80, 0x00, 0x00];
+const GAIN: &[u8] = b"\x64\x80\xf7\x02\x80\x00\x00";
 
 // One layout, stereo, of which nothing but the integrated loudness and the peak is said.
-const LAYOUT: [u8; 7] = [0x01, 0x80, 0x00, 0x00, 0x00, 0x00, 0x00];
+const LAYOUT: &[u8] = b"\x01\x80\x00\x00\x00\x00\x00";
 
 /// A count below 128, as its one byte.
 fn count(number: usize) -> u8 {
@@ -50,10 +46,10 @@ fn mix_payload(alloc: Global, id: u8, sub_mixes: &[&[u8]]) -> Result<Vec<u8>, Al
         payload.push(count(elements.len()))?;
         for element in elements.iter() {
             payload.extend_from_slice(&[*element, 0, 0])?;
-            payload.extend_from_slice(&GAIN)?;
+            payload.extend_from_slice(GAIN)?;
         }
-        payload.extend_from_slice(&GAIN)?;
-        payload.extend_from_slice(&LAYOUT)?;
+        payload.extend_from_slice(GAIN)?;
+        payload.extend_from_slice(LAYOUT)?;
     }
     Ok(payload)
 }
@@ -76,9 +72,9 @@ fn read_mix<'a>(rt: &impl Abort, alloc: Global, payload: &'a [u8]) -> MixPresent
     }
 }
 
-#[test]
-fn each_descriptor_has_its_line(rt: HostRuntime) -> Result<(), Fail> {
-    let mut tally = Tally::new(rt.alloc());
+/// A tally of a sequence header and a codec config.
+fn begun(alloc: Global) -> Tally {
+    let mut tally = Tally::new(alloc);
     tally.add_header(&SequenceHeader {
         primary: 2,
         additional: 255,
@@ -94,22 +90,33 @@ fn each_descriptor_has_its_line(rt: HostRuntime) -> Result<(), Fail> {
         },
         tail: &[],
     });
-    for payload in [
-        STEREO.as_slice(),
-        SCENE.as_slice(),
-        PROJECTION.as_slice(),
-        UNREAD.as_slice(),
-    ] {
+    tally
+}
+
+/// Adds a mix to the tally: the elements of its sub-mixes, and the bytes after them.
+fn add_mix(
+    rt: &impl Abort,
+    alloc: Global,
+    tally: &mut Tally,
+    id: u8,
+    sub_mixes: &[&[u8]],
+    tail: &[u8],
+    fits: bool,
+) -> Result<(), AllocError> {
+    let mut payload = mix_payload(alloc, id, sub_mixes)?;
+    payload.extend_from_slice(tail)?;
+    let mix = read_mix(rt, alloc, payload.as_slice());
+    tally.add_mix(alloc, &mix, fits)
+}
+
+#[test]
+fn each_descriptor_has_its_line(rt: HostRuntime) -> Result<(), Fail> {
+    let mut tally = begun(rt.alloc());
+    for payload in [STEREO, SCENE, PROJECTION, UNREAD] {
         tally.add_element(&read_element(&rt, rt.alloc(), payload))?;
     }
-    for (id, sub_mixes, fits) in [
-        (2, [[1u8].as_slice()].as_slice(), true),
-        (3, [[1u8].as_slice(), [1, 3].as_slice()].as_slice(), false),
-    ] {
-        let payload = mix_payload(rt.alloc(), id, sub_mixes)?;
-        let mix = read_mix(&rt, rt.alloc(), payload.as_slice());
-        tally.add_mix(rt.alloc(), &mix, fits)?;
-    }
+    add_mix(&rt, rt.alloc(), &mut tally, 2, &[&[1]], b"", true)?;
+    add_mix(&rt, rt.alloc(), &mut tally, 3, &[&[1], &[1, 3]], b"", false)?;
     let text = report(rt.alloc(), &tally.finish(3, 2856))?;
     let want = b"profile 2 255
 codec 7 ipcm 960 44100 24
@@ -126,53 +133,18 @@ samples 2856
     Ok(())
 }
 
-/// The bytes of so many tags: their number, and of each the name and the value, which end with a zero byte.
-fn tags_tail(alloc: Global, tags: &[(&[u8], &[u8])]) -> Result<Vec<u8>, AllocError> {
-    let mut tail = Vec::from_slice(alloc, &[count(tags.len())])?;
-    for (name, value) in tags {
-        tail.extend_from_slice(name)?;
-        tail.push(0)?;
-        tail.extend_from_slice(value)?;
-        tail.push(0)?;
-    }
-    Ok(tail)
-}
-
-/// The report on nothing but mix 2 of element 1, which fits, with these bytes after its sub-mixes.
-fn mix_report(rt: &impl Abort, alloc: Global, tail: &[u8]) -> Result<Vec<u8>, AllocError> {
-    let mut payload = mix_payload(alloc, 2, &[&[1]])?;
-    payload.extend_from_slice(tail)?;
-    let mix = read_mix(rt, alloc, payload.as_slice());
-    let mut tally = Tally::new(alloc);
-    tally.add_mix(alloc, &mix, true)?;
-    report(alloc, &tally.finish(0, 0))
-}
-
 #[test]
 fn the_tags_of_a_mix_stand_right_after_its_line(rt: HostRuntime) -> Result<(), Fail> {
-    let mut first = mix_payload(rt.alloc(), 2, &[&[1]])?;
-    first.extend_from_slice(tags_tail(
-        rt.alloc(),
-        &[
-            (b"lang".as_slice(), b"en".as_slice()),
-            (b"title".as_slice(), b"One".as_slice()),
-        ],
-    )?
-    .as_slice())?;
-    let mut second = mix_payload(rt.alloc(), 3, &[&[1]])?;
-    second.extend_from_slice(tags_tail(
-        rt.alloc(),
-        &[(b"lang".as_slice(), b"nl".as_slice())],
-    )?.as_slice())?;
     let mut tally = Tally::new(rt.alloc());
-    tally.add_mix(
+    let two = b"\x02lang\0en\0title\0One\0";
+    add_mix(&rt, rt.alloc(), &mut tally, 2, &[&[1]], two, true)?;
+    add_mix(
+        &rt,
         rt.alloc(),
-        &read_mix(&rt, rt.alloc(), first.as_slice()),
-        true,
-    )?;
-    tally.add_mix(
-        rt.alloc(),
-        &read_mix(&rt, rt.alloc(), second.as_slice()),
+        &mut tally,
+        3,
+        &[&[1]],
+        b"\x01lang\0nl\0",
         false,
     )?;
     let text = report(rt.alloc(), &tally.finish(0, 0))?;
@@ -188,55 +160,45 @@ samples 0
     Ok(())
 }
 
-#[test]
-fn names_and_values_are_escaped(rt: HostRuntime) -> Result<(), Fail> {
-    // A name, a value and the line of the tag.
-    let table = [
-        (
-            b"a b".as_slice(),
-            b"".as_slice(),
-            b"tag a\\20b \n".as_slice(),
-        ),
-        (b"".as_slice(), b"".as_slice(), b"tag  \n".as_slice()),
-        (
-            b"\x01\x02\t\n\r".as_slice(),
-            b"\x1b\x1f !".as_slice(),
-            b"tag \\01\\02\\09\\0a\\0d \\1b\\1f\\20!\n".as_slice(),
-        ),
-        (
-            b"C:\\x".as_slice(),
-            b"\x7e\x7f".as_slice(),
-            b"tag C:\\5cx ~\\7f\n".as_slice(),
-        ),
-        (
-            b"\xc3\xa9".as_slice(),
-            b"\\\\".as_slice(),
-            b"tag \xc3\xa9 \\5c\\5c\n".as_slice(),
-        ),
-    ];
-    for (name, value, line) in table {
-        let tail = tags_tail(rt.alloc(), &[(name, value)])?;
-        let text = mix_report(&rt, rt.alloc(), tail.as_slice())?;
-        let mut want = Vec::from_slice(rt.alloc(), b"mix 2 1 1 fits\n")?;
-        want.extend_from_slice(line)?;
-        want.extend_from_slice(b"units 0\nsamples 0\n")?;
-        assert_eq!(rt; text.as_slice(), want.as_slice());
-    }
-    Ok(())
+/// The report on nothing but mix 2 of element 1, which fits, with these bytes after its sub-mixes.
+fn mix_report(rt: &impl Abort, alloc: Global, tail: &[u8]) -> Result<Vec<u8>, AllocError> {
+    let mut tally = Tally::new(alloc);
+    add_mix(rt, alloc, &mut tally, 2, &[&[1]], tail, true)?;
+    report(alloc, &tally.finish(0, 0))
 }
 
-#[test]
-fn bytes_that_are_no_tags_have_no_line(rt: HostRuntime) -> Result<(), Fail> {
+// The bytes after the sub-mixes, and the report.
+const TAILS: &[(&[u8], &[u8])] = &[
+    // Names and values are escaped.
+    (
+        b"\x01a b\0\0",
+        b"mix 2 1 1 fits\ntag a\\20b \nunits 0\nsamples 0\n",
+    ),
+    (b"\x01\0\0", b"mix 2 1 1 fits\ntag  \nunits 0\nsamples 0\n"),
+    (
+        b"\x01\x01\x02\t\n\r\0\x1b\x1f !\0",
+        b"mix 2 1 1 fits\ntag \\01\\02\\09\\0a\\0d \\1b\\1f\\20!\nunits 0\nsamples 0\n",
+    ),
+    (
+        b"\x01C:\\x\0\x7e\x7f\0",
+        b"mix 2 1 1 fits\ntag C:\\5cx ~\\7f\nunits 0\nsamples 0\n",
+    ),
+    (
+        b"\x01\xc3\xa9\0\\\\\0",
+        b"mix 2 1 1 fits\ntag \xc3\xa9 \\5c\\5c\nunits 0\nsamples 0\n",
+    ),
     // No byte, no tag, two tags of which one is there, and a name without an end.
-    for tail in [
-        b"".as_slice(),
-        b"\x00".as_slice(),
-        b"\x02lang\x00en\x00".as_slice(),
-        b"\x01lang".as_slice(),
-    ] {
-        let text = mix_report(&rt, rt.alloc(), tail)?;
-        let want = b"mix 2 1 1 fits\nunits 0\nsamples 0\n";
-        assert_eq!(rt; text.as_slice(), want.as_slice());
+    (b"", b"mix 2 1 1 fits\nunits 0\nsamples 0\n"),
+    (b"\0", b"mix 2 1 1 fits\nunits 0\nsamples 0\n"),
+    (b"\x02lang\0en\0", b"mix 2 1 1 fits\nunits 0\nsamples 0\n"),
+    (b"\x01lang", b"mix 2 1 1 fits\nunits 0\nsamples 0\n"),
+];
+
+#[test]
+fn tails_are_reported_as_tags_or_not_at_all(rt: HostRuntime) -> Result<(), Fail> {
+    for (tail, report) in TAILS {
+        let found = mix_report(&rt, rt.alloc(), tail)?;
+        assert_eq!(rt; found.as_slice(), *report);
     }
     Ok(())
 }

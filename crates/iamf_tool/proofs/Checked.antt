@@ -13,7 +13,8 @@ use Rattle.iamf_tool.specs.Answers.{view_answer}
 use Rattle.iamf_tool.specs.Outcome.{SequenceGives}
 use Rattle.iamf_tool.specs.Status.{status_of, status_line}
 use Rattle.iamf_tool.specs.Ends.{Ran, IsUntouched, Noted, Ends}
-use Rattle.iamf_tool.specs.Checks.{Tells, LeavesOff}
+use Rattle.iamf_mux.specs.Feeding.{Tells}
+use Rattle.iamf_tool.specs.Checks.{LeavesOff}
 use Rattle.iamf_tool.proofs.Refused.{AnswersTo, refusal_gives}
 
 pub reported : {E : Type 0} (r : Result Answer E) (answer : Result Facts DecodeError) (bytes : List ℕ)

@@ -1,19 +1,14 @@
 -- A source whose bytes are checked as they come in.
-use Rattle.std.proofs.Common.{◌≡◌, ℕ, ◌+◌, ◌^◌, ◌<◌, ◌≤◌, ◌⊎◌, inl, inr, List, [], ◌++◌, length, Option, Some, None, Result, Ok, Err, refl, sym, ap, subst, ◌∙◌, arith, append-nil, length-append}
-use Rattle.std.specs.Prelude.{OnOk, OnErr, alloc_error}
+use Rattle.std.proofs.Common.{◌≡◌, ℕ, ◌+◌, ◌^◌, ◌<◌, ◌≤◌, inl, List, [], ◌++◌, length, Option, Result, refl, ap, ◌∙◌, arith, append-nil, length-append}
 use Rattle.std.specs.Io.KnownBytes.{Consumes, IsAtEnd}
 use Rattle.std.proofs.KnownBytes.{Consumes-nil, Consumes-trans}
 use Rattle.iamf_report.specs.Lines.{Facts}
-use Rattle.iamf_io.specs.Whole.{TakesAll, TakesCount}
 use Rattle.iamf_sequence.specs.declared.refusal.DecodeError.{DecodeError}
-use Rattle.iamf_sequence.specs.declared.refusal.DecodeError.TheVariants.{Refused, Memory}
-use Rattle.iamf_stream.specs.CheckerView.{CheckerValue, Stands, IsSpent, Feeds, Finishes}
+use Rattle.iamf_stream.specs.CheckerView.{CheckerValue, Stands}
+use Rattle.iamf_mux.specs.Feeding.{Knows}
+use Rattle.iamf_mux.proofs.Fed.{IsFed, knows_more, fed_more, IsFinished, tells}
 use Rattle.iamf_tool.specs.Ends.{Side}
-use Rattle.iamf_tool.specs.Checks.{Tells, ChecksAll, GaveTooMany}
-
--- the checker stands for the bytes, or memory ran out
-abbrev pub Knows : CheckerValue → List ℕ → Type 0
-Knows c bytes = Stands c bytes ⊎ IsSpent c
+use Rattle.iamf_tool.specs.Checks.{ChecksAll, GaveTooMany}
 
 -- what the reading loop keeps
 pub record IsHalfChecked (old new : Option (List ℕ)) (before now : ℕ) (checker : CheckerValue) (read : ℕ) : Type 0 where
@@ -38,26 +33,6 @@ half_start old now checker stands none = record {
 
 -- ---- one more piece
 
--- what feeding it answers and leaves
-pub record IsFed (old new : CheckerValue) (result : Result (Unit {0}) DecodeError) (piece : List ℕ) : Type 0 where
-  pub feeds : (stream : List ℕ) → Stands old stream → Feeds new result (stream ++ piece)
-  pub more : OnOk result (new.fed ≡ old.fed + length piece)
-  pub no_more : OnErr result (new.fed ≡ old.fed)
-  pub spent : IsSpent old → (result ≡ Err (Memory alloc_error)) × (new ≡ old)
-
-known : (new : CheckerValue) (result : Result (Unit {0}) DecodeError) (stream : List ℕ) → Feeds new result stream → Knows new stream
-known new (Ok _) stream f = inl f.stands
-known new (Err (Refused r)) stream f = inl f.stands
-known new (Err (Memory e)) stream f = inr f
-
-knows_more : (old new : CheckerValue) (result : Result (Unit {0}) DecodeError) (piece bytes : List ℕ) → IsFed old new result piece → Knows old bytes → Knows new (bytes ++ piece)
-knows_more old new result piece bytes fed (inl stands) = known new result (bytes ++ piece) (fed.feeds bytes stands)
-knows_more old new result piece bytes fed (inr spent) = inr (subst IsSpent (sym (fed.spent spent).1) spent)
-
-fed_more : (old new n : ℕ) (result : Result (Unit {0}) DecodeError) → OnOk result (new ≡ old + n) → OnErr result (new ≡ old) → new ≤ old + n
-fed_more old new n (Ok _) more none = omega (arith, more)
-fed_more old new n (Err e) more none = omega (arith, none)
-
 pub half_more : (a b c : Option (List ℕ)) (before mid now : ℕ) (old new : CheckerValue) (result : Result (Unit {0}) DecodeError) (read count : ℕ) (piece given : List ℕ) → IsHalfChecked a b before mid old read → Consumes b c piece
     → count ≡ length piece → now ≡ mid → read + count ≤ 2 ^ 30 → given ≡ piece → IsFed old new result given → IsHalfChecked a c before now new (read + count)
 half_more a b c before mid now old new result read count piece given h consumes len same few is fed = record {
@@ -71,20 +46,6 @@ half_more a b c before mid now old new result read count piece given h consumes 
 }
 
 -- ---- the end
-
--- what the end answers
-pub record IsFinished (checker : CheckerValue) (result : Result Facts DecodeError) : Type 0 where
-  pub finishes : (stream : List ℕ) → Stands checker stream → Finishes result stream
-  pub spent : IsSpent checker → result ≡ Err (Memory alloc_error)
-
-told : (result : Result Facts DecodeError) (bytes : List ℕ) → Finishes result bytes → Tells result bytes
-told (Ok facts) bytes f = f
-told (Err (Refused r)) bytes f = f
-told (Err (Memory e)) bytes f = absurd f
-
-tells : (checker : CheckerValue) (result : Result Facts DecodeError) (bytes : List ℕ) → IsFinished checker result → Knows checker bytes → Tells result bytes
-tells checker result bytes f (inl stands) = told result bytes (f.finishes bytes stands)
-tells checker result bytes f (inr spent) = rw (f.spent spent) tt
 
 pub half_ends : (source : Side) (b : Option (List ℕ)) (mid : ℕ) (checker : CheckerValue) (read : ℕ) (result : Result Facts DecodeError) → IsHalfChecked source.before b source.count_before mid checker read
     → Consumes b source.after [] → IsAtEnd source.after → source.count_after ≡ mid → IsFinished checker result → ChecksAll result source

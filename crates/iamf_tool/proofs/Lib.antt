@@ -8,3 +8,5 @@ pub mod Refused
 pub mod Decimals
 pub mod Pieces
 pub mod Played
+pub mod Waiting
+pub mod Written

@@ -8,7 +8,9 @@ use Rattle.iamf_sequence.specs.Places.{IsRefused}
 use Rattle.iamf_tool.specs.declared.answer.Answer.{Answer}
 use Rattle.iamf_tool.specs.declared.answer.Answer.TheVariants as answer
 use Rattle.iamf_tool.specs.Answers.{view_answer, IsRefusalOf}
-use Rattle.iamf_tool.specs.Outcome.{SequenceGives, PlayGives}
+use Rattle.iamf_mux.specs.declared.demuxing.DemuxError.{DemuxError}
+use Rattle.iamf_mux.specs.Demuxing.{IsNoBare}
+use Rattle.iamf_tool.specs.Outcome.{SequenceGives, MuxGives, DemuxGives, PlayGives}
 
 abbrev pub AnswersTo : DecodeError → Answer → Type 0
 AnswersTo error a = (bytes : List ℕ) → IsRefused bytes error → IsRefusalOf bytes a
@@ -31,3 +33,17 @@ pub answered_to_play : {E : Type 0} (r : Result Answer E) (error : DecodeError) 
     → IfOk r (λ a. PlayGives mix target bytes (view_answer a))
 answered_to_play (Ok a) error mix target bytes every is = refusal_plays mix target bytes a (every bytes is)
 answered_to_play (Err e) error mix target bytes every is = tt
+
+refusal_muxes : (bytes : List ℕ) (a : Answer) → IsRefusalOf bytes a → MuxGives bytes (view_answer a)
+refusal_muxes bytes (answer.Output output) is = absurd is
+refusal_muxes bytes (answer.Refusal at code) is = is
+refusal_muxes bytes (answer.Unplayable code) is = absurd is
+
+pub answered_to_mux : {E : Type 0} (r : Result Answer E) (error : DecodeError) (bytes : List ℕ) → IfOk r (AnswersTo error) → IsRefused bytes error → IfOk r (λ a. MuxGives bytes (view_answer a))
+answered_to_mux (Ok a) error bytes every is = refusal_muxes bytes a (every bytes is)
+answered_to_mux (Err e) error bytes every is = tt
+
+-- and what a file gives that holds no sequence
+pub answered_to_demux : {E : Type 0} (r : Result Answer E) (error : DemuxError) (f : List ℕ) → IfOk r (λ a. (g : List ℕ) → IsNoBare g error → DemuxGives g (view_answer a)) → IsNoBare f error → IfOk r (λ a. DemuxGives f (view_answer a))
+answered_to_demux (Ok a) error f every is = every f is
+answered_to_demux (Err e) error f every is = tt

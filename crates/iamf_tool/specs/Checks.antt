@@ -1,20 +1,13 @@
 -- What checking the bytes that a source gives answers, and how the source is left.
 use Rattle.std.specs.Prelude.{◌≡◌, ℕ, ◌+◌, ◌^◌, List, Result, Ok, Err}
-use Rattle.spec_values.specs.Value.{ObuValue}
-use Rattle.spec_sequence.specs.Reading.{Reads}
 use Rattle.iamf_io.specs.Causes.{Rose}
 use Rattle.iamf_io.specs.Whole.{TakesAll, TakesCount}
 use Rattle.iamf_io.specs.declared.whole.ReadError.{ReadError}
 use Rattle.iamf_io.specs.declared.whole.ReadError.TheVariants.{Failed, TooLarge, Memory}
-use Rattle.iamf_report.specs.Lines.{Facts, facts_of}
+use Rattle.iamf_report.specs.Lines.{Facts}
 use Rattle.iamf_sequence.specs.declared.refusal.DecodeError.{DecodeError}
-use Rattle.iamf_sequence.specs.Places.{IsRefused}
+use Rattle.iamf_mux.specs.Feeding.{Tells}
 use Rattle.iamf_tool.specs.Ends.{Side}
-
--- the bytes are a sequence of which the report says this, or this is their refusal, unless memory ran out
-abbrev pub Tells : Result Facts DecodeError → List ℕ → Type 0
-Tells (Ok facts) bytes = (s : List ObuValue) × Reads bytes s × (facts ≡ facts_of s)
-Tells (Err error) bytes = IsRefused bytes error
 
 -- all bytes that were left were taken, and are so
 pub record ChecksAll (answer : Result Facts DecodeError) (source : Side) : Type 0 where

@@ -4,7 +4,8 @@ ghost use Rattle.spec_report.specs.Report.{report};
 ghost use Rattle.iamf_tool.specs.declared.command.Command.TheVariants as given;
 ghost use Rattle.iamf_tool.specs.Outcome.{SequenceGives};
 ghost use Rattle.iamf_tool.specs.Answers.{view_answer};
-ghost use Rattle.iamf_tool.specs.Checks.{Tells, Checks};
+ghost use Rattle.iamf_mux.specs.Feeding.{Tells};
+ghost use Rattle.iamf_tool.specs.Checks.{Checks};
 ghost use Rattle.iamf_tool.specs.Ends.{side, ran, Ends};
 
 use crate::answer::{Answer, answer_to};

@@ -11,6 +11,7 @@ mod ending;
 mod listing;
 mod muxing;
 mod notes;
+mod piecewise;
 mod playing;
 mod run;
 mod status;

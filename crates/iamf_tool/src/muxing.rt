@@ -1,44 +1,146 @@
-//! The commands on MP4 files.
-ghost use Rattle.std.specs.Prelude.{◌≤◌, ◌^◌, length, IfOk};
-ghost use Rattle.iamf_tool.specs.Outcome.{MuxGives, DemuxGives};
+//! The commands on MP4 files. All is tested and all memory is taken before the first byte is written.
+ghost use Rattle.std.specs.Prelude.{◌≡◌, ◌≤◌, ◌^◌, ℕ, List, [], length, IfOk};
+ghost use Rattle.iamf_tool.specs.declared.command.Command.TheVariants as given;
+ghost use Rattle.iamf_tool.specs.declared.command.Conversion.TheVariants as conversion;
+ghost use Rattle.spec_values.specs.Value.{ObuValue};
+ghost use Rattle.spec_sequence.specs.Reading.{Reads};
+ghost use Rattle.spec_bodies.specs.SequenceFile.{IsBareOf};
+ghost use Rattle.iamf_mux.specs.Demuxing.{bare, IsNoBare};
+ghost use Rattle.iamf_mux.specs.FileOf.{file_of};
+ghost use Rattle.iamf_tool.specs.Outcome.{DemuxGives};
 ghost use Rattle.iamf_tool.specs.Answers.{view_answer};
+ghost use Rattle.iamf_tool.specs.Ends.{side, Writes, Concludes};
 
-use crate::answer::Answer;
-use iamf_mux::DemuxError;
-use iamf_sequence::{DecodeError, decode};
+use crate::answer::{Answer, answer_to};
+use crate::ending::conclude;
+use crate::notes::ended;
+use crate::piecewise::{ROOM, finish, put_piece, put_pieces, put_samples};
+use crate::status::Status;
+use bytes::BytesMut;
+use iamf_io::{Failed, Sink};
+use iamf_mux::{DemuxError, FileParts, file_parts, sequence_track};
+use iamf_sequence::{Sequence, decode};
+use mp4_boxes::Track;
 use std::alloc::{AllocError, Global};
 
-/// The MP4 file of the sequence that the bytes are, or their first fault.
-pub fn mux(alloc: Global, bytes: &[u8]) -> Result<Answer, AllocError>
-    requires { length bytes.now ≤ 2 ^ 30 }
-    ensures { IfOk result (λ a. MuxGives bytes.now (view_answer a)) }
+// Writes the parts of a file.
+fn write_parts<W: Sink>(
+    waiting: &mut BytesMut,
+    parts: &FileParts<'_>,
+    out: &mut W,
+) -> Result<(), Failed>
+    requires { waiting.old.items ≡ [] }
+    ensures { Writes result (file_of parts.now) (side W.held W.faults out.old out.new) }
 {
-    match decode(alloc, bytes) {
-        Ok(sequence) => Ok(Answer::Output(iamf_mux::mux(alloc, &sequence)?)),
-        Err(DecodeError::Refused(refusal)) => Ok(Answer::Refusal {
-            at: refusal.at,
-            code: refusal.code(),
-        }),
-        Err(DecodeError::Memory(error)) => Err(error),
+    match put_piece(waiting, &parts.front, out) {
+        Ok(()) => {}
+        Err(failed) => return Err(failed),
+    }
+    match put_pieces(waiting, &parts.data, out) {
+        Ok(()) => finish(waiting, out),
+        Err(failed) => Err(failed),
     }
 }
 
-/// The bare sequence in the MP4 file that the bytes are, or the first rule on boxes that fails, or the first fault of the
-/// bare sequence.
-pub fn demux(alloc: Global, bytes: &[u8]) -> Result<Answer, AllocError>
-    requires { length bytes.now ≤ 2 ^ 30 }
-    ensures { IfOk result (λ a. DemuxGives bytes.now (view_answer a)) }
+// Writes the MP4 file of the sequence.
+fn mux_sequence<W: Sink, N: Sink>(
+    alloc: Global,
+    sequence: &Sequence<'_>,
+    out: &mut W,
+    notes: &mut N,
+) -> Status
+    requires { length sequence.now.bytes ≤ 2 ^ 30 }
+    ensures { Concludes result (given.Convert conversion.Mux) sequence.now.bytes
+        (side W.held W.faults out.old out.new) (side N.held N.faults notes.old notes.new) }
 {
-    match iamf_mux::demux(alloc, bytes) {
-        Ok(bare) => Ok(Answer::Output(bare)),
-        Err(DemuxError::Box(refusal)) => Ok(Answer::Refusal {
+    let parts = match file_parts(alloc, sequence) {
+        Ok(parts) => parts,
+        Err(_) => return ended(Status::Memory, notes),
+    };
+    let mut waiting = match BytesMut::with_capacity(alloc, ROOM) {
+        Ok(waiting) => waiting,
+        Err(_) => return ended(Status::Memory, notes),
+    };
+    match write_parts(&mut waiting, &parts, out) {
+        Ok(()) => Status::Done,
+        Err(_) => ended(Status::WriteFault, notes),
+    }
+}
+
+/// Writes the MP4 file of the sequence that the bytes are, or notes their first fault.
+pub fn mux<W: Sink, N: Sink>(alloc: Global, bytes: &[u8], out: &mut W, notes: &mut N) -> Status
+    requires { length bytes.now ≤ 2 ^ 30 }
+    ensures { Concludes result (given.Convert conversion.Mux) bytes.now
+        (side W.held W.faults out.old out.new) (side N.held N.faults notes.old notes.new) }
+{
+    match decode(alloc, bytes) {
+        Ok(sequence) => mux_sequence(alloc, &sequence, out, notes),
+        Err(error) => conclude(alloc, answer_to(error), out, notes),
+    }
+}
+
+// Writes the bare sequence of the track.
+#[tactic(auto, unfolding(spec_files::specs::Body::rebuilt))]
+fn write_bare<W: Sink>(waiting: &mut BytesMut, track: &Track<'_>, out: &mut W) -> Result<(), Failed>
+    requires { waiting.old.items ≡ [] }
+    ensures { Writes result (bare track.now) (side W.held W.faults out.old out.new) }
+{
+    match put_piece(waiting, track.config(), out) {
+        Ok(()) => {}
+        Err(failed) => return Err(failed),
+    }
+    match put_samples(waiting, &track.samples(), out) {
+        Ok(()) => finish(waiting, out),
+        Err(failed) => Err(failed),
+    }
+}
+
+// Writes the bare sequence of the track of a file.
+fn demux_track<W: Sink, N: Sink>(
+    alloc: Global,
+    track: &Track<'_>,
+    out: &mut W,
+    notes: &mut N,
+) -> Status
+    ensures { (f : List ℕ) → IsBareOf f (bare track.now) → (s : List ObuValue) → Reads (bare track.now) s → Concludes result (given.Convert conversion.Demux) f
+        (side W.held W.faults out.old out.new) (side N.held N.faults notes.old notes.new) }
+{
+    let mut waiting = match BytesMut::with_capacity(alloc, ROOM) {
+        Ok(waiting) => waiting,
+        Err(_) => return ended(Status::Memory, notes),
+    };
+    match write_bare(&mut waiting, track, out) {
+        Ok(()) => Status::Done,
+        Err(_) => ended(Status::WriteFault, notes),
+    }
+}
+
+// The answer to a file that gives no sequence. An `Err` says that there is no memory.
+fn answer_to_file(error: DemuxError) -> Result<Answer, AllocError>
+    ensures { IfOk result (λ a. (f : List ℕ) → IsNoBare f error → DemuxGives f (view_answer a)) }
+{
+    match error {
+        DemuxError::Box(refusal) => Ok(Answer::Refusal {
             at: refusal.at,
             code: u32::from(refusal.fault.code()),
         }),
-        Err(DemuxError::Inner(refusal)) => Ok(Answer::Refusal {
+        DemuxError::Inner(refusal) => Ok(Answer::Refusal {
             at: refusal.at,
             code: refusal.code(),
         }),
-        Err(DemuxError::Memory(error)) => Err(error),
+        DemuxError::Memory(error) => Err(error),
+    }
+}
+
+/// Writes the bare sequence in the MP4 file that the bytes are, or notes the first rule on boxes that fails, or the first
+/// fault of the bare sequence.
+pub fn demux<W: Sink, N: Sink>(alloc: Global, bytes: &[u8], out: &mut W, notes: &mut N) -> Status
+    requires { length bytes.now ≤ 2 ^ 30 }
+    ensures { Concludes result (given.Convert conversion.Demux) bytes.now
+        (side W.held W.faults out.old out.new) (side N.held N.faults notes.old notes.new) }
+{
+    match sequence_track(alloc, bytes) {
+        Ok(track) => demux_track(alloc, &track, out, notes),
+        Err(error) => conclude(alloc, answer_to_file(error), out, notes),
     }
 }

@@ -1,11 +1,8 @@
 //! The commands that make one output of the whole input.
-ghost use Rattle.std.specs.Prelude.{◌≤◌, ◌^◌, length, IfOk};
+ghost use Rattle.std.specs.Prelude.{◌≤◌, ◌^◌, length};
 ghost use Rattle.iamf_tool.specs.declared.command.Command.TheVariants as given;
-ghost use Rattle.iamf_tool.specs.Outcome.{Converts};
-ghost use Rattle.iamf_tool.specs.Answers.{view_answer};
-ghost use Rattle.iamf_tool.specs.Ends.{side, ran, Ends};
+ghost use Rattle.iamf_tool.specs.Ends.{side, ran, Concludes, Ends};
 
-use crate::answer::Answer;
 use crate::canon::canon;
 use crate::command::Conversion;
 use crate::ending::conclude;
@@ -14,21 +11,28 @@ use crate::muxing::{demux, mux};
 use crate::notes::unread;
 use crate::status::Status;
 use iamf_io::{Sink, Source, read_all};
-use std::alloc::{AllocError, Global};
+use std::alloc::Global;
 
 /// The most bytes that an input has.
 pub const LIMIT: u64 = 1073741824;
 
-// What is made of these bytes, of which there are at most 2^30.
-fn converted(alloc: Global, conversion: Conversion, bytes: &[u8]) -> Result<Answer, AllocError>
+// Writes what is made of these bytes, of which there are at most 2^30, or notes why nothing is.
+fn convert<W: Sink, N: Sink>(
+    alloc: Global,
+    conversion: Conversion,
+    bytes: &[u8],
+    out: &mut W,
+    notes: &mut N,
+) -> Status
     requires { length bytes.now ≤ 2 ^ 30 }
-    ensures { IfOk result (λ a. Converts conversion bytes.now (view_answer a)) }
+    ensures { Concludes result (given.Convert conversion) bytes.now
+        (side W.held W.faults out.old out.new) (side N.held N.faults notes.old notes.new) }
 {
     match conversion {
-        Conversion::List => list_lines(alloc, bytes),
-        Conversion::Canon => canon(alloc, bytes),
-        Conversion::Mux => mux(alloc, bytes),
-        Conversion::Demux => demux(alloc, bytes),
+        Conversion::List => conclude(alloc, list_lines(alloc, bytes), out, notes),
+        Conversion::Canon => conclude(alloc, canon(alloc, bytes), out, notes),
+        Conversion::Mux => mux(alloc, bytes, out, notes),
+        Conversion::Demux => demux(alloc, bytes, out, notes),
     }
 }
 
@@ -44,7 +48,7 @@ pub fn whole<R: Source, W: Sink, N: Sink>(
         (side W.held W.faults out.old out.new) (side N.held N.faults notes.old notes.new)) }
 {
     match read_all(alloc, source, LIMIT) {
-        Ok(bytes) => conclude(alloc, converted(alloc, conversion, &bytes), out, notes),
+        Ok(bytes) => convert(alloc, conversion, &bytes, out, notes),
         Err(error) => unread(error, notes),
     }
 }

@@ -1,5 +1,5 @@
 -- How large floors of fractions are.
-use Rattle.std.proofs.Common.{arith, ◌≡◌, ◌<◌, ◌≤◌, ℕ, ℤ, pos, ◌-ℤ◌, ◌*ℤ◌, ◌^◌, ◌+◌, ◌*◌, unsigned_abs}
+use Rattle.std.proofs.Common.{arith, ◌≡◌, ◌<◌, ◌≤◌, ℕ, ℤ, pos, ◌-ℤ◌, ◌*ℤ◌, ◌+◌, ◌*◌, unsigned_abs}
 use Rattle.std.proofs.lemmas.Int.{ints, unsigned_abs-mul}
 use Rattle.std.proofs.Math.Nat.{mul-le-mul}
 use Rattle.spec_demix.specs.Floor.{floor_of}
@@ -24,17 +24,17 @@ over_least z n a m least h most room =
     bounded : (q n a m : ℕ) → 707 ≤ n → n ≤ 1000 → q * n ≤ a + n → a + 1000 < 707 * (m + 1) → q ≤ m
     bounded q n a m least most f room = let k : q * 707 ≤ q * n = mul-le-mul (omega arith) least in omega (arith, k, f)
 
-pub unmixed_most : (whole part : ℤ) (n : ℕ) → 707 ≤ n → n ≤ 866 → AtMost (2 ^ 58) 422 whole → AtMost (2 ^ 58) 100 part → AtMost (2 ^ 58) 740 (floor_of (pos 1000 *ℤ (whole -ℤ part)) n)
-unmixed_most whole part n least most w p =
-    over_least (pos 1000 *ℤ (whole -ℤ part)) n (522000 * 2 ^ 58) (740 * 2 ^ 58) least (omega (arith, ints)) (omega arith) (omega arith)
+pub unmixed_most : (m : ℕ) (whole part : ℤ) (n : ℕ) → 1 ≤ m → 707 ≤ n → n ≤ 866 → AtMost m 422 whole → AtMost m 100 part → AtMost m 740 (floor_of (pos 1000 *ℤ (whole -ℤ part)) n)
+unmixed_most m whole part n some least most w p =
+    over_least (pos 1000 *ℤ (whole -ℤ part)) n (522000 * m) (740 * m) least (omega (arith, ints)) (omega arith) (omega arith)
 
-pub behind_most : (surround side : ℤ) (n : ℕ) → 707 ≤ n → n ≤ 1000 → AtMost (2 ^ 58) 740 surround → AtMost (2 ^ 58) 100000 side → AtMost (2 ^ 58) 1190 (floor_of (pos 1000 *ℤ surround -ℤ side) n)
-behind_most surround side n least most w p =
-    over_least (pos 1000 *ℤ surround -ℤ side) n (840000 * 2 ^ 58) (1190 * 2 ^ 58) least (omega (arith, ints)) most (omega arith)
+pub behind_most : (m : ℕ) (surround side : ℤ) (n : ℕ) → 1 ≤ m → 707 ≤ n → n ≤ 1000 → AtMost m 740 surround → AtMost m 100000 side → AtMost m 1190 (floor_of (pos 1000 *ℤ surround -ℤ side) n)
+behind_most m surround side n some least most w p =
+    over_least (pos 1000 *ℤ surround -ℤ side) n (840000 * m) (1190 * m) least (omega (arith, ints)) most (omega arith)
 
-pub share_most : (weight : ℕ) (surround : ℤ) → weight ≤ 5000 * 866 → AtMost (2 ^ 58) 740 surround → AtMost (2 ^ 58) 321 (floor_of (pos weight *ℤ surround) 10000000)
-share_most weight surround few s =
-    let p : unsigned_abs (pos weight *ℤ surround) ≤ (5000 * 866) * (740 * 2 ^ 58) = rw unsigned_abs-mul (mul-le-mul few s) in
+pub share_most : (m weight : ℕ) (surround : ℤ) → 1 ≤ m → weight ≤ 5000 * 866 → AtMost m 740 surround → AtMost m 321 (floor_of (pos weight *ℤ surround) 10000000)
+share_most m weight surround some few s =
+    let p : unsigned_abs (pos weight *ℤ surround) ≤ (5000 * 866) * (740 * m) = rw unsigned_abs-mul (mul-le-mul few s) in
     let l = floor-low (pos weight *ℤ surround) 10000000 (omega arith) in
     let h = floor-high (pos weight *ℤ surround) 10000000 (omega arith) in
     omega (arith, ints)

@@ -1,4 +1,6 @@
 pub mod FloorSizes
+pub mod FloorParts
+pub mod QuietLemmas
 pub mod SampleSizes
 pub mod UnitsInTwo
 pub mod StepLemmas
@@ -6,3 +8,4 @@ pub mod AtOnce
 pub mod KeptOrigins
 pub mod Rows
 pub mod KeptLayers
+pub mod Clips

@@ -1,3 +1,5 @@
 pub mod Within
 pub mod Origins
+pub mod Scaled
+pub mod Quiet
 pub mod Kernel

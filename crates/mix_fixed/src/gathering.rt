@@ -10,12 +10,18 @@ use spec_layouts::Layout;
 
 macro_rules! row {
     ($out:ident, $n:literal: $($channel:expr),*) => {{
-        let row: [i128; $n] = [$($channel),*];
-        $out.copy_from_slice(&row);
+        // A caller's count of channels leaves few layouts, and the compiler needs to keep no other.
+        if $out.len() == $n {
+            let row: [i128; $n] = [$($channel),*];
+            $out.copy_from_slice(&row);
+        } else {
+            unreachable!();
+        }
     }};
 }
 
 /// The channels of a layout in the order of a WAV file.
+#[inline(always)]
 pub(crate) fn gather<const C: usize>(layout: Layout, bed: &Bed, out: &mut [i128; C])
     requires speakers { layout ≢ Layout.Binaural }
     requires count { C ≡ length (channels layout) }

@@ -1,8 +1,11 @@
 //! The kernel, which demixes a scalable element in whole units of 1/2^28.
 
-ghost use Rattle.std.specs.Prelude.{◌≡◌, ◌+◌, ◌*◌, ◌^◌, ◌<◌, ◌≤◌, ℕ, All, length, map, take, unsigned_abs};
+ghost use Rattle.std.specs.Prelude.{◌≡◌, ◌≢◌, ◌+◌, ◌*◌, ◌^◌, ◌<◌, ◌≤◌, ℕ, All, IsTrue, length, map, take, unsigned_abs};
 ghost use Rattle.std.specs.List.{AllZip};
-ghost use Rattle.spec_gains.specs.Modes.{coefficients_of, IsMode};
+ghost use Rattle.spec_gains.specs.Modes.{coefficients_of, AreBounded, IsMode};
+ghost use Rattle.spec_layouts.specs.Layouts.{channels};
+ghost use Rattle.spec_demix.specs.Kinds.{kind_of};
+ghost use Rattle.spec_demix.specs.Values.{value_of};
 ghost use Rattle.spec_demix.specs.Downmix.{Channels};
 ghost use Rattle.spec_demix.specs.Sent.{IsLayers};
 ghost use Rattle.spec_demix.specs.Fits.{FitsOver, target_channels};
@@ -11,10 +14,16 @@ ghost use Rattle.spec_demix.specs.Sizes.{AreSamples, IsNear};
 ghost use Rattle.spec_demix.specs.Elements.{demix_layers_of};
 ghost use Rattle.obu_descriptors.specs.LayerView.{view_layer};
 ghost use Rattle.demix_channels.specs.Gains.{HaveModestGains};
-ghost use Rattle.mix_fixed.specs.Kernel.{target_of};
+ghost use Rattle.demix_channels.specs.Room.{AreWithin};
+ghost use Rattle.mix_fixed.specs.Kernel.{target_of, IsPrepared};
+ghost use Rattle.mix_fixed.specs.Origins.{bed_from};
+ghost use Rattle.mix_fixed.specs.Quiet.{AreShort, OfBed, IsQuiet};
+ghost use Rattle.mix_fixed.specs.Scaled.{scaled_bed};
 
 use crate::gathering::gather;
+use crate::narrow;
 use crate::origins::{Origins, origins_of};
+use crate::scaled::{Most, ScaledBed, most_of, scaled_bed};
 use crate::steps::bed;
 use demix_channels::{DemixParams, demix_layer};
 use obu_descriptors::Layer;
@@ -28,18 +37,22 @@ pub struct Kernel {
     layers: [DemixLayer; 6],
     count: usize,
     origins: Origins,
+    /// What is sent, with its factors in units.
+    scaled: ScaledBed,
+    /// The largest of both parts of the factors.
+    most: Most,
 }
 
 impl Model for Kernel {
     ghost use Rattle.std.specs.Prelude.{List, take};
     ghost use Rattle.spec_demix.specs.declared.DemixLayer.{DemixLayer};
-    ghost use Rattle.mix_fixed.specs.Kernel.{IsKernel};
+    ghost use Rattle.mix_fixed.specs.Kernel.{IsKernel, IsPrepared};
 
     ghost Value = { List DemixLayer };
 
     ghost view = { λ kernel. take kernel.count kernel.layers };
 
-    ghost invariant = { λ kernel. IsKernel kernel.count (take kernel.count kernel.layers) kernel.origins };
+    ghost invariant = { λ kernel. IsKernel kernel.count (take kernel.count kernel.layers) kernel.origins × IsPrepared kernel.origins.sent kernel.scaled kernel.most };
 }
 
 impl Kernel {
@@ -62,10 +75,13 @@ impl Kernel {
             kept[i] = demix_layer(&layers[i]);
         }
         let origins = origins_of(&kept[..target + 1]);
+        let scaled = scaled_bed(&origins.sent);
         Kernel {
             layers: kept,
             count: target + 1,
             origins,
+            scaled,
+            most: most_of(&scaled),
         }
     }
 
@@ -85,7 +101,95 @@ impl Kernel {
         ensures small { All (λ channel. unsigned_abs channel < 2 ^ 39 * 2 ^ 28) out.new }
     {
         let layers = &self.layers[..self.count];
-        let bed = bed(&self.origins, params, coded);
-        gather(layers[layers.len() - 1].layout, &bed, out);
+        let layout = layers[layers.len() - 1].layout;
+        write(
+            layout,
+            &self.origins,
+            &self.scaled,
+            self.most,
+            params,
+            coded,
+            out,
+        );
     }
+}
+
+/// Whether samples have 25 bits: then 64 bits hold them in units under each output gain.
+fn are_short(coded: &[i64]) -> bool
+    ensures { IsTrue result → AreShort coded.now }
+{
+    coded.iter().all(|y| y.unsigned_abs() <= 0x100_0000)
+}
+
+/// Writes the target's channels, in 64 bits where those hold every channel.
+fn write<const C: usize>(
+    layout: Layout,
+    origins: &Origins,
+    scaled: &ScaledBed,
+    most: Most,
+    params: DemixParams,
+    coded: &[i64],
+    out: &mut [i128; C],
+)
+    requires speakers { layout ≢ Layout.Binaural }
+    requires count { C ≡ length (channels layout) }
+    requires mode { AreBounded (coefficients_of params.mode) }
+    requires weight { params.weight ≤ 5000 }
+    requires within { AreWithin (length coded.now) origins.now.sent }
+    requires samples { AreSamples coded.now }
+    requires prepared { IsPrepared origins.now.sent scaled.now most }
+    ensures { out.new ≡ map (value_of (kind_of layout) (bed_from origins.now (coefficients_of params.mode) params.weight coded.now)) (channels layout) }
+{
+    if most.is_whole() {
+        write_narrow::<C, true>(layout, origins, scaled, params, coded, out);
+    } else if most.is_calm() {
+        write_narrow::<C, false>(layout, origins, scaled, params, coded, out);
+    } else if are_short(coded) {
+        write_narrow::<C, false>(layout, origins, scaled, params, coded, out);
+    } else {
+        write_wide(layout, origins, params, coded, out);
+    }
+}
+
+/// Writes the target's channels by way of 64 bits.
+fn write_narrow<const C: usize, const PLAIN: bool>(
+    layout: Layout,
+    origins: &Origins,
+    scaled: &ScaledBed,
+    params: DemixParams,
+    coded: &[i64],
+    out: &mut [i128; C],
+)
+    requires speakers { layout ≢ Layout.Binaural }
+    requires count { C ≡ length (channels layout) }
+    requires mode { AreBounded (coefficients_of params.mode) }
+    requires weight { params.weight ≤ 5000 }
+    requires scaled { scaled.now ≡ scaled_bed origins.now.sent }
+    requires quiet { OfBed (IsQuiet PLAIN coded.now) scaled.now }
+    ensures { out.new ≡ map (value_of (kind_of layout) (bed_from origins.now (coefficients_of params.mode) params.weight coded.now)) (channels layout) }
+{
+    let bed = narrow::bed::<PLAIN>(origins, params, scaled, coded);
+    gather(layout, &bed, out);
+}
+
+/// Writes the target's channels by way of 128 bits.
+#[cold]
+#[inline(never)]
+fn write_wide<const C: usize>(
+    layout: Layout,
+    origins: &Origins,
+    params: DemixParams,
+    coded: &[i64],
+    out: &mut [i128; C],
+)
+    requires speakers { layout ≢ Layout.Binaural }
+    requires count { C ≡ length (channels layout) }
+    requires mode { AreBounded (coefficients_of params.mode) }
+    requires weight { params.weight ≤ 5000 }
+    requires within { AreWithin (length coded.now) origins.now.sent }
+    requires samples { AreSamples coded.now }
+    ensures { out.new ≡ map (value_of (kind_of layout) (bed_from origins.now (coefficients_of params.mode) params.weight coded.now)) (channels layout) }
+{
+    let bed = bed(origins, params, coded);
+    gather(layout, &bed, out);
 }

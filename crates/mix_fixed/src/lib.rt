@@ -5,9 +5,11 @@
 mod floors;
 mod gathering;
 mod kernel;
+mod narrow;
 mod origins;
 mod output;
 mod samples;
+mod scaled;
 mod steps;
 
 pub use demix_channels::DemixParams;

@@ -23,45 +23,45 @@ pub fn apply_gain(value: i128, gain: u64) -> i128
 }
 
 /// How many samples of a depth are not negative.
-fn half_range(depth: u8) -> i128
+#[inline]
+fn half_range(depth: u8) -> u64
     requires some { 1 ≤ depth }
     requires most { depth ≤ 32 }
-    ensures value { result ≡ pos (2 ^ (depth - 1)) }
+    ensures value { result ≡ 2 ^ (depth - 1) }
     ensures small { 2 ^ (depth - 1) ≤ 2 ^ 31 }
     ensures some { 1 ≤ 2 ^ (depth - 1) }
 {
     1 << (depth - 1)
 }
 
-/// The nearest whole number, halves upwards.
-fn nearest(value: i128) -> i128
-    requires { unsigned_abs value < 2 ^ 126 }
-    ensures { result ≡ rounded value }
+/// What a number has above its low 64 bits.
+#[inline]
+fn high_word(x: i128) -> i128
+    ensures { result ≡ floor_of x (2 ^ 64) }
 {
-    (value + 0x800_0000) >> 28
-}
-
-/// The nearest sample of a depth.
-fn clip(whole: i128, depth: u8) -> i32
-    requires some { 1 ≤ depth }
-    requires most { depth ≤ 32 }
-    ensures { result ≡ clipped depth whole }
-{
-    let half = half_range(depth);
-    let low = -half;
-    let high = half - 1;
-    whole.clamp(low, high) as i32
+    x >> 64
 }
 
 /// The whole number nearest to a value in units of 1/2^28, halves upwards, held to the samples of a depth: from -2^(depth-1)
 /// to 2^(depth-1) - 1.
 ///
 /// The value must be below 2^126 in absolute value, and the depth from 1 to 32.
+#[inline]
 pub fn round_clip(value: i128, depth: u8) -> i32
     requires value { unsigned_abs value < 2 ^ 126 }
     requires some { 1 ≤ depth }
     requires most { depth ≤ 32 }
     ensures { result ≡ clipped depth (rounded value) }
 {
-    clip(nearest(value), depth)
+    let half = half_range(depth);
+    // how far the value lies above the lowest that is rounded to a sample: one test in place of two
+    let above = value + i128::from(0x800_0000 + half * 0x1000_0000);
+    let high = high_word(above);
+    if high == 0 && (above as u64) < half * 0x2000_0000 {
+        ((above as u64 / 0x1000_0000) as i64 - half as i64) as i32
+    } else if value < 0 {
+        -(half as i64) as i32
+    } else {
+        (half as i64 - 1) as i32
+    }
 }

@@ -185,7 +185,7 @@ fn side(
 
 /// What a surround adds to the top of 3.1.2, by a weight in parts of 10^7.
 #[inline]
-fn share_of(weight: u32, surround: i128) -> i128
+pub(crate) fn share_of(weight: u32, surround: i128) -> i128
     requires weight { weight ≤ 5000 * 866 }
     requires surround { AtMost (2 ^ 58) 740 surround }
     ensures value { result ≡ floor_of (pos weight *ℤ surround) 10000000 }

@@ -103,9 +103,8 @@ pub moov_is : (m : Movie) (place n : ℕ) → n ≡ 8 + length (moov_body m plac
 unfolding moov_body
 moov_is m place n is = box_is MOOV _ n is ∙ ap (λ (x : List ℕ). (word n ++ MOOV) ++ (box (codes "mvhd") (mvhd_body m) ++ x)) (last TRAK (trak_body m place))
 
-pub file_is : (m : Movie) (n : ℕ) → n ≡ 8 + length (moov_body m 0)
-    → file m ≡ box (codes "ftyp") ftyp_body ++ (box MOOV (moov_body m (24 + n + 8)) ++ box (codes "mdat") (all_units m))
+pub file_is : (m : Movie) (place : ℕ) → place ≡ 40 + length (moov_body m 0)
+    → file m ≡ box (codes "ftyp") ftyp_body ++ (box MOOV (moov_body m place) ++ box (codes "mdat") (all_units m))
 unfolding file
-file_is m n is =
-    let place : data_place m ≡ 24 + n + 8 = omega (arith, is) in
-    rw place (ap (λ (x : List ℕ). box (codes "ftyp") ftyp_body ++ (box MOOV (moov_body m (24 + n + 8)) ++ x)) (last (codes "mdat") (all_units m)))
+file_is m place is =
+    rw is (ap (λ (x : List ℕ). box (codes "ftyp") ftyp_body ++ (box MOOV (moov_body m (data_place m)) ++ x)) (last (codes "mdat") (all_units m)))

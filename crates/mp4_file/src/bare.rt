@@ -9,7 +9,7 @@ use mp4_boxes::{Samples, Track};
 use std::alloc::{AllocError, Global};
 
 /// A temporal delimiter (IAMF 1.0.0, "Temporal Delimiter OBU").
-const DELIMITER: [u8; 2] = [0x20, 0x00];
+pub const DELIMITER: [u8; 2] = [0x20, 0x00];
 
 // How many bytes the samples have.
 fn samples_len(samples: &Samples<'_>) -> usize {

@@ -1,10 +1,10 @@
 //! The file.
 
-ghost use Rattle.std.specs.Prelude.{◌≡◌, ◌++◌, OnOk, IfOk, codes};
+ghost use Rattle.std.specs.Prelude.{◌≡◌, ◌+◌, ◌*◌, ◌≤◌, ◌++◌, length, OnOk, IfOk};
 ghost use Rattle.spec_boxes.specs.Laws.{Holds};
-ghost use Rattle.spec_files.specs.Pieces.{box};
-ghost use Rattle.spec_files.specs.MovieFile.{all_units, file};
+ghost use Rattle.spec_files.specs.MovieFile.{moov_body, file};
 ghost use Rattle.spec_files.specs.Body.{IsBody};
+ghost use Rattle.mp4_file.specs.Slices.{joined};
 ghost use Rattle.mp4_file.specs.Views.{movie_of};
 
 use crate::containers::put_moov;
@@ -19,22 +19,44 @@ const FTYP_LEN: u32 = 24;
 
 const HEADER_LEN: u32 = 8;
 
-fn put_mdat(out: &mut Vec<u8>, movie: &Movie<'_>) -> Result<(), AllocError>
-    ensures { OnOk result (out.new.items ≡ out.old.items ++ box (codes "mdat") (all_units (movie_of movie.now))) }
+// In bytes: all that stands before the data.
+fn front_len(movie: &Movie<'_>) -> u32
+    ensures exact { result ≡ 40 + length (moov_body (movie_of movie.now) 0) }
+    ensures small { result ≤ length (joined movie.now.descriptors.now) + 4 * length movie.now.unit_lengths.now + 627 }
 {
+    FTYP_LEN + moov_len(movie) + HEADER_LEN
+}
+
+// All that stands before the data.
+fn put_front(out: &mut Vec<u8>, movie: &Movie<'_>) -> Result<(), AllocError>
+    ensures { OnOk result (out.new.items ++ joined movie.now.data.now ≡ out.old.items ++ file (movie_of movie.now)) }
+{
+    put_ftyp(out)?;
+    put_moov(out, movie, front_len(movie))?;
     put_head(out, HEADER_LEN + data_len(movie), b"mdat")?;
-    put_pieces(out, movie.data)?;
     Ok(())
 }
 
 fn put_file(alloc: Global, movie: &Movie<'_>) -> Result<Vec<u8>, AllocError>
     ensures { IfOk result (λ v. v.items ≡ file (movie_of movie.now)) }
 {
-    let place = FTYP_LEN + moov_len(movie) + HEADER_LEN;
-    let mut out = Vec::with_capacity(alloc, (place + data_len(movie)) as usize)?;
-    put_ftyp(&mut out)?;
-    put_moov(&mut out, movie, place)?;
-    put_mdat(&mut out, movie)?;
+    let len = front_len(movie) + data_len(movie);
+    let mut out = Vec::with_capacity(alloc, len as usize)?;
+    put_front(&mut out, movie)?;
+    put_pieces(&mut out, movie.data)?;
+    Ok(out)
+}
+
+/// All of a movie's file that stands before its data: the tables, and the header of the data, which then ends the file.
+///
+/// # Errors
+///
+/// Want of memory alone.
+pub fn write_front(alloc: Global, movie: &Movie<'_>) -> Result<Vec<u8>, AllocError>
+    ensures { IfOk result (λ v. v.items ++ joined movie.now.data.now ≡ file (movie_of movie.now)) }
+{
+    let mut out = Vec::with_capacity(alloc, front_len(movie) as usize)?;
+    put_front(&mut out, movie)?;
     Ok(out)
 }
 

@@ -15,6 +15,6 @@ mod sizes;
 mod tests;
 mod track_header;
 
-pub use bare::rebuild;
-pub use file::write_movie;
+pub use bare::{DELIMITER, rebuild};
+pub use file::{write_front, write_movie};
 pub use movie::Movie;

@@ -6,50 +6,103 @@ ghost use Rattle.spec_descriptors.specs.AudioElement.{audio_element};
 ghost use Rattle.spec_descriptors.specs.ElementFields.{audio_element_fields};
 ghost use Rattle.obu_descriptors.specs.ElementView.{view_element};
 
-use obu_descriptors::{
-    AudioElement, DescriptorError, ElementConfig, OutputGain, Param, coded_channels,
-    substream_channels,
-};
-use spec_layouts::Layout;
-use std::alloc::Global;
+use obu_descriptors::{AudioElement, DescriptorError, coded_channels, substream_channels};
+use std::alloc::{AllocError, Global};
 use std::process::Abort;
 use std::test::Fail;
 
 // One layer, stereo.
-const STEREO: [u8; 10] = [0x01, 0x00, 0x00, 0x01, 0x00, 0x00, 0x20, 0x10, 0x01, 0x01];
+const STEREO: &[u8] = b"\x01\x00\x00\x01\x00\x00\x20\x10\x01\x01";
 
 // The layers stereo, 5.1.2 and 7.1.4, with demixing and recon gains, in frames of 1024 ticks.
-const LAYERS: [u8; 45] = [
-    0x01, 0x00, 0x00, 0x07, 0x00, 0x01, 0x02, 0x03, 0x04, 0x05, 0x06, 0x02, 0x01, 0x66, 0x80, 0xf7,
-    0x02, 0x00, 0x80, 0x08, 0x80, 0x08, 0x40, 0x70, 0x02, 0x67, 0x80, 0xf7, 0x02, 0x00, 0x80, 0x08,
-    0x80, 0x08, 0x60, 0x10, 0x01, 0x01, 0x34, 0x04, 0x02, 0x74, 0x02, 0x02, 0x99,
-];
+const LAYERS: &[u8] = b"\x01\x00\x00\x07\x00\x01\x02\x03\x04\x05\x06\
+    \x02\x01\x66\x80\xf7\x02\x00\x80\x08\x80\x08\x40\x70\x02\x67\x80\xf7\x02\x00\x80\x08\x80\x08\
+    \x60\x10\x01\x01\x34\x04\x02\x74\x02\x02\x99";
 
 // One channel by a matrix of one coefficient, 16384.
-const PROJECTION: [u8; 12] = [
-    0x01, 0x20, 0x00, 0x01, 0x00, 0x00, 0x01, 0x01, 0x01, 0x00, 0x40, 0x00,
-];
+const PROJECTION: &[u8] = b"\x01\x20\x00\x01\x00\x00\x01\x01\x01\x00\x40\x00";
 
 // Four outputs of three substreams, the last silent.
-const SCENE: [u8; 15] = [
-    0x01, 0x20, 0x00, 0x03, 0x00, 0x01, 0x02, 0x00, 0x00, 0x04, 0x03, 0x00, 0x01, 0x02, 0xff,
-];
+const SCENE: &[u8] = b"\x01\x20\x00\x03\x00\x01\x02\x00\x00\x04\x03\x00\x01\x02\xff";
 
 // A type that is kept unread, with a parameter that is, and a tail.
-const UNREAD: [u8; 14] = [
-    0x01, 0x40, 0x00, 0x00, 0x01, 0x05, 0x02, 0xaa, 0xbb, 0x03, 0x01, 0x02, 0x03, 0x99,
-];
+const UNREAD: &[u8] = b"\x01\x40\x00\x00\x01\x05\x02\xaa\xbb\x03\x01\x02\x03\x99";
 
 // Mono with a gain of -1536 for the flags 32.
-const GAIN: [u8; 13] = [
-    0x01, 0x00, 0x00, 0x01, 0x00, 0x00, 0x20, 0x0c, 0x01, 0x00, 0x80, 0xfa, 0x00,
-];
+const GAIN: &[u8] = b"\x01\x00\x00\x01\x00\x00\x20\x0c\x01\x00\x80\xfa\x00";
 
 // Stereo with recon gains of no codec config, whose subblocks last 5 and 6 ticks.
-const SUBBLOCKS: [u8; 19] = [
-    0x01, 0x00, 0x00, 0x01, 0x00, 0x01, 0x02, 0x67, 0x01, 0x00, 0x00, 0x00, 0x02, 0x05, 0x06, 0x20,
-    0x10, 0x01, 0x01,
+const SUBBLOCKS: &[u8] =
+    b"\x01\x00\x00\x01\x00\x01\x02\x67\x01\x00\x00\x00\x02\x05\x06\x20\x10\x01\x01";
+
+// A payload, how many ticks a frame has, and what is read.
+const READ: &[(&[u8], u32, &str)] = &[
+    (
+        STEREO,
+        8,
+        "Ok(AudioElement { id: 1, codec: 0, substreams: [0], params: [], config: Scalable { layers: \
+         [Layer { layout: Stereo, gain: None, recon: false, substreams: 1, coupled: 1 }] }, tail: [] })",
+    ),
+    (
+        LAYERS,
+        1024,
+        "Ok(AudioElement { id: 1, codec: 0, substreams: [0, 1, 2, 3, 4, 5, 6], params: \
+         [Demix { timing: Timing { id: 102, rate: 48000, fixed: \
+         Some(Fixed { duration: 1024, constant: 1024, durations: [] }) }, mode: 2, weight: 7 }, \
+         Recon { timing: Timing { id: 103, rate: 48000, fixed: \
+         Some(Fixed { duration: 1024, constant: 1024, durations: [] }) } }], config: Scalable { layers: \
+         [Layer { layout: Stereo, gain: None, recon: false, substreams: 1, coupled: 1 }, \
+         Layer { layout: L512, gain: None, recon: true, substreams: 4, coupled: 2 }, \
+         Layer { layout: L714, gain: None, recon: true, substreams: 2, coupled: 2 }] }, tail: [153] })",
+    ),
+    (
+        PROJECTION,
+        8,
+        "Ok(AudioElement { id: 1, codec: 0, substreams: [0], params: [], config: \
+         Projection { outputs: 1, substreams: 1, coupled: 0, matrix: [64, 0] }, tail: [] })",
+    ),
+    (
+        SCENE,
+        8,
+        "Ok(AudioElement { id: 1, codec: 0, substreams: [0, 1, 2], params: [], config: \
+         Mono { outputs: 4, mapping: [0, 1, 2, 255] }, tail: [] })",
+    ),
+    (
+        UNREAD,
+        8,
+        "Ok(AudioElement { id: 1, codec: 0, substreams: [], params: [Other { kind: 5, bytes: [170, 187] }], \
+         config: Other { kind: 2, bytes: [1, 2, 3] }, tail: [153] })",
+    ),
+    (
+        GAIN,
+        8,
+        "Ok(AudioElement { id: 1, codec: 0, substreams: [0], params: [], config: Scalable { layers: \
+         [Layer { layout: Mono, gain: Some(OutputGain { flags: 32, gain: -1536 }), recon: true, \
+         substreams: 1, coupled: 0 }] }, tail: [] })",
+    ),
+    (
+        SUBBLOCKS,
+        0,
+        "Ok(AudioElement { id: 1, codec: 0, substreams: [0], params: \
+         [Recon { timing: Timing { id: 103, rate: 1, fixed: \
+         Some(Fixed { duration: 0, constant: 0, durations: [5, 6] }) } }], config: Scalable { layers: \
+         [Layer { layout: Stereo, gain: None, recon: false, substreams: 1, coupled: 1 }] }, tail: [] })",
+    ),
 ];
+
+/// What is read of the payload, as text.
+fn shown(alloc: Global, payload: &[u8], frame_length: u32) -> Result<String, AllocError> {
+    format!(in alloc; "{:?}", AudioElement::read(alloc, payload, frame_length))
+}
+
+#[test]
+fn worked_payloads_are_read(rt: HostRuntime) -> Result<(), Fail> {
+    for (payload, frame_length, text) in READ {
+        let found = shown(rt.alloc(), payload, *frame_length)?;
+        assert_eq!(rt; found.as_str(), *text);
+    }
+    Ok(())
+}
 
 fn read<'a>(
     rt: &impl Abort,
@@ -65,6 +118,43 @@ fn read<'a>(
     }
 }
 
+/// What is read of the payload, written again.
+fn written(
+    rt: &impl Abort,
+    alloc: Global,
+    payload: &[u8],
+    frame_length: u32,
+) -> Result<Vec<u8>, AllocError> {
+    read(rt, alloc, payload, frame_length).write(alloc)
+}
+
+/// How many bytes its fields have.
+fn fields_length(
+    rt: &impl Abort,
+    alloc: Global,
+    payload: &[u8],
+    frame_length: u32,
+) -> Result<usize, AllocError> {
+    let fields = read(rt, alloc, payload, frame_length).write_fields(alloc)?;
+    Ok(fields.len())
+}
+
+// Long numbers, and all reserved bits set.
+const LONG: &[u8] = b"\x81\x80\x00\x1f\x80\x00\x81\x00\x80\x00\x80\x00\x3f\x13\x01\x01";
+
+#[test]
+fn payloads_are_written_shortest(rt: HostRuntime) -> Result<(), Fail> {
+    for (payload, frame_length, fields) in FIELDS {
+        let found = written(&rt, rt.alloc(), payload, *frame_length)?;
+        assert_eq!(rt; found.as_slice(), *payload);
+        let length = fields_length(&rt, rt.alloc(), payload, *frame_length)?;
+        assert!(rt; length == *fields);
+    }
+    let found = written(&rt, rt.alloc(), LONG, 8)?;
+    assert!(rt; found.as_slice() == STEREO);
+    Ok(())
+}
+
 /// The number of the refusal, 0 where there is none, and 1 where memory ran out.
 fn refusal(alloc: Global, payload: &[u8], frame_length: u32) -> u8 {
     match AudioElement::read(alloc, payload, frame_length) {
@@ -74,274 +164,127 @@ fn refusal(alloc: Global, payload: &[u8], frame_length: u32) -> u8 {
     }
 }
 
-#[test]
-fn a_stereo_layer_is_read(rt: HostRuntime) {
-    let element = read(&rt, rt.alloc(), &STEREO, 8);
-    assert_eq!(rt; element.id, 1);
-    assert_eq!(rt; element.codec, 0);
-    assert_eq!(rt; element.substreams.as_slice(), [0].as_slice());
-    assert_eq!(rt; element.params.len(), 0);
-    assert_eq!(rt; element.tail.len(), 0);
-    if let ElementConfig::Scalable { layers } = &element.config {
-        let layers = layers.as_slice();
-        assert!(rt; layers.len() == 1);
-        assert_eq!(rt; layers[0].layout, Layout::Stereo);
-        assert_eq!(rt; layers[0].gain, None);
-        assert_eq!(rt; layers[0].recon, false);
-        assert_eq!(rt; layers[0].substreams, 1);
-        assert_eq!(rt; layers[0].coupled, 1);
-    } else {
-        panic!(rt; "not scalable");
-    }
-}
-
-#[test]
-fn three_layers_and_their_parameters_are_read(rt: HostRuntime) {
-    let element = read(&rt, rt.alloc(), &LAYERS, 1024);
-    assert_eq!(rt;
-        element.substreams.as_slice(),
-        [0, 1, 2, 3, 4, 5, 6].as_slice()
-    );
-    assert_eq!(rt; element.tail, [0x99].as_slice());
-    let params = element.params.as_slice();
-    assert!(rt; params.len() == 2);
-    if let Param::Demix {
-        timing,
-        mode,
-        weight,
-    } = &params[0]
-    {
-        assert_eq!(rt;
-            (timing.id, timing.rate, *mode, *weight),
-            (102, 48000, 2, 7)
-        );
-    } else {
-        panic!(rt; "no demixing");
-    }
-    if let Param::Recon { timing } = &params[1] {
-        assert_eq!(rt; (timing.id, timing.rate), (103, 48000));
-    } else {
-        panic!(rt; "no recon gains");
-    }
-    if let ElementConfig::Scalable { layers } = &element.config {
-        let layers = layers.as_slice();
-        assert!(rt; layers.len() == 3);
-        assert_eq!(rt; (layers[1].layout, layers[1].recon), (Layout::L512, true));
-        assert_eq!(rt; (layers[2].layout, layers[2].recon), (Layout::L714, true));
-    } else {
-        panic!(rt; "not scalable");
-    }
-}
-
-#[test]
-fn ambisonics_is_read(rt: HostRuntime) {
-    if let ElementConfig::Mono { outputs, mapping } = read(&rt, rt.alloc(), &SCENE, 8).config {
-        assert_eq!(rt; outputs, 4);
-        assert_eq!(rt; mapping, [0, 1, 2, 255].as_slice());
-    } else {
-        panic!(rt; "not by a mapping");
-    }
-    if let ElementConfig::Projection {
-        outputs,
-        substreams,
-        coupled,
-        matrix,
-    } = read(&rt, rt.alloc(), &PROJECTION, 8).config
-    {
-        assert_eq!(rt; (outputs, substreams, coupled), (1, 1, 0));
-        assert_eq!(rt; matrix, [0x40, 0x00].as_slice());
-    } else {
-        panic!(rt; "not by a matrix");
-    }
-}
-
-#[test]
-fn a_gain_and_subblocks_are_read(rt: HostRuntime) {
-    if let ElementConfig::Scalable { layers } = &read(&rt, rt.alloc(), &GAIN, 8).config {
-        let layers = layers.as_slice();
-        assert!(rt; layers.len() == 1);
-        let gain = OutputGain {
-            flags: 32,
-            gain: -1536,
-        };
-        assert_eq!(rt; layers[0].gain, Some(gain));
-    } else {
-        panic!(rt; "not scalable");
-    }
-    let element = read(&rt, rt.alloc(), &SUBBLOCKS, 0);
-    let params = element.params.as_slice();
-    assert!(rt; params.len() == 1);
-    if let Param::Recon { timing } = &params[0] {
-        if let Some(fixed) = &timing.fixed {
-            assert_eq!(rt; (fixed.duration, fixed.constant), (0, 0));
-            assert_eq!(rt; fixed.durations.as_slice(), [5, 6].as_slice());
-        } else {
-            panic!(rt; "no durations");
+/// How many fronts of the payload lack a field, from the empty one on.
+fn short_fronts(alloc: Global, payload: &[u8], frame_length: u32) -> usize {
+    for n in 0..payload.len() {
+        if refusal(alloc, &payload[..n], frame_length) != 10 {
+            return n;
         }
-    } else {
-        panic!(rt; "no recon gains");
     }
+    payload.len()
 }
 
-#[test]
-fn worked_payloads_are_written_back(rt: HostRuntime) -> Result<(), Fail> {
-    let table = [
-        (STEREO.as_slice(), 8),
-        (LAYERS.as_slice(), 1024),
-        (PROJECTION.as_slice(), 8),
-        (SCENE.as_slice(), 8),
-        (UNREAD.as_slice(), 8),
-        (GAIN.as_slice(), 8),
-        (SUBBLOCKS.as_slice(), 0),
-    ];
-    for (payload, frame_length) in table {
-        let element = read(&rt, rt.alloc(), payload, frame_length);
-        let fields = element.write_fields(rt.alloc())?;
-        assert_eq!(rt; fields.len() + element.tail.len(), payload.len());
-        let written = element.write(rt.alloc())?;
-        assert_eq!(rt; written.as_slice(), payload);
-    }
-    Ok(())
-}
-
-#[test]
-fn long_leb128s_and_reserved_bits_are_written_shortest(rt: HostRuntime) -> Result<(), Fail> {
-    let long = [
-        0x81, 0x80, 0x00, 0x1f, 0x80, 0x00, 0x81, 0x00, 0x80, 0x00, 0x80, 0x00, 0x3f, 0x13, 0x01,
-        0x01,
-    ];
-    let written = read(&rt, rt.alloc(), &long, 8).write(rt.alloc())?;
-    assert_eq!(rt; written.as_slice(), STEREO.as_slice());
-    Ok(())
-}
+// A payload, how many ticks a frame has, and how many bytes its fields have.
+const FIELDS: &[(&[u8], u32, usize)] = &[
+    (STEREO, 8, 10),
+    (LAYERS, 1024, 44),
+    (PROJECTION, 8, 12),
+    (SCENE, 8, 15),
+    (UNREAD, 8, 13),
+    (GAIN, 8, 13),
+    (SUBBLOCKS, 0, 19),
+];
 
 #[test]
 fn each_truncation_lacks_a_field(rt: HostRuntime) {
-    let table = [
-        (STEREO.as_slice(), 8),
-        (&LAYERS[..44], 1024),
-        (PROJECTION.as_slice(), 8),
-        (SCENE.as_slice(), 8),
-        (&UNREAD[..13], 8),
-        (GAIN.as_slice(), 8),
-        (SUBBLOCKS.as_slice(), 0),
-    ];
-    for (payload, frame_length) in table {
-        for n in 0..payload.len() {
-            assert_eq!(rt;
-                refusal(rt.alloc(), &payload[..n], frame_length),
-                10,
-                "at {n}"
-            );
-        }
+    for (payload, frame_length, fields) in FIELDS {
+        assert_eq!(rt; short_fronts(rt.alloc(), payload, *frame_length), *fields);
     }
 }
 
-#[test]
-fn more_substreams_than_bytes_are_refused(rt: HostRuntime) {
-    let payload = [0x01, 0x00, 0x00, 0xff, 0xff, 0xff, 0xff, 0x0f, 0x00, 0x00];
-    assert_eq!(rt; refusal(rt.alloc(), &payload, 8), 10);
-}
+// A payload, how many ticks a frame has, and the number of the fault. Each but the first of the demixing parameters ends
+// with the field that has the fault, or goes on with zeros.
+const FAULTS: &[(&[u8], u32, u8)] = &[
+    // More substreams than bytes.
+    (b"\x01\x00\x00\xff\xff\xff\xff\x0f\x00\x00", 8, 10),
+    // A parameter that the type of the element does not have.
+    (b"\x01\x00\x00\x00\x01\x00", 8, 20),
+    (b"\x01\x20\x00\x00\x01\x01", 8, 20),
+    (b"\x01\x40\x00\x00\x01\x02", 8, 20),
+    // Two demixing parameters; then another mode, duration and constant of the first, and another frame.
+    (
+        b"\x01\x00\x00\x00\x02\x01\x66\x01\x00\x08\x08\x20\x00\x01",
+        8,
+        20,
+    ),
+    (
+        b"\x01\x00\x00\x00\x02\x01\x66\x01\x80\x08\x08\x20\x00\x01",
+        8,
+        21,
+    ),
+    (
+        b"\x01\x00\x00\x00\x02\x01\x66\x01\x00\x07\x08\x20\x00\x01",
+        8,
+        21,
+    ),
+    (
+        b"\x01\x00\x00\x00\x02\x01\x66\x01\x00\x08\x09\x20\x00\x01",
+        8,
+        21,
+    ),
+    (
+        b"\x01\x00\x00\x00\x02\x01\x66\x01\x00\x08\x08\x20\x00\x01",
+        9,
+        21,
+    ),
+    // Layers.
+    (b"\x01\x00\x00\x00\x00\x00\x00\x00\x00\x00", 8, 22),
+    (b"\x01\x00\x00\x00\x00\xe0\x00\x00\x00\x00", 8, 22),
+    (b"\x01\x00\x00\x00\x00\x20\xa0\x00\x00\x00", 8, 22),
+    (b"\x01\x00\x00\x00\x00\x20\x10\x01\x00\x00", 8, 22),
+    (b"\x01\x00\x00\x00\x00\x20\x10\x02\x01\x00", 8, 22),
+    (b"\x01\x00\x00\x00\x00\x20\x20\x04\x02\x00", 8, 23),
+    (b"\x01\x00\x00\x00\x00\x40\x10\x01\x01\x10", 8, 22),
+    (
+        b"\x01\x00\x00\x05\x00\x01\x02\x03\x04\x00\x40\x20\x04\x02\x10",
+        8,
+        22,
+    ),
+    (b"\x01\x00\x00\x02\x00\x01\x00\x20\x10\x01\x01", 8, 23),
+    // Ambisonics: an unknown mode, then by a mapping, and by a matrix.
+    (b"\x01\x20\x00\x00\x00\x02\x00\x00\x00\x00", 8, 24),
+    (b"\x01\x20\x00\x00\x00\x00\x02\x01\x00\x00", 8, 24),
+    (b"\x01\x20\x00\x00\x00\x00\x00\x01\x00\x00", 8, 24),
+    (b"\x01\x20\x00\x00\x00\x00\x01\x00\x00\x00", 8, 24),
+    (b"\x01\x20\x00\x00\x00\x00\x01\x02\x00\x00", 8, 24),
+    (b"\x01\x20\x00\x00\x00\x00\x04\x02\x01\x02", 8, 24),
+    (b"\x01\x20\x00\x00\x00\x01\x01\x01\x02\x00", 8, 24),
+    (b"\x01\x20\x00\x00\x00\x01\x01\x00\x00\x00", 8, 24),
+    (b"\x01\x20\x00\x00\x00\x00\x01\x01\xff\x00", 8, 23),
+    (b"\x01\x20\x00\x00\x00\x00\x04\x02\x01\xff", 8, 10),
+];
 
 #[test]
-fn parameter_faults(rt: HostRuntime) {
-    let demixing = [
-        0x01, 0x00, 0x00, 0x00, 0x02, 0x01, 0x66, 0x01, 0x00, 0x08, 0x08, 0x20, 0x00, 0x01,
-    ];
-    let mut mode = demixing;
-    mode[8] = 0x80;
-    let mut duration = demixing;
-    duration[9] = 0x07;
-    let mut constant = demixing;
-    constant[10] = 0x09;
-    assert_eq!(rt;
-        refusal(rt.alloc(), &[0x01, 0x00, 0x00, 0x00, 0x01, 0x00], 8),
-        20
-    );
-    assert_eq!(rt;
-        refusal(rt.alloc(), &[0x01, 0x20, 0x00, 0x00, 0x01, 0x01], 8),
-        20
-    );
-    assert_eq!(rt;
-        refusal(rt.alloc(), &[0x01, 0x40, 0x00, 0x00, 0x01, 0x02], 8),
-        20
-    );
-    assert_eq!(rt; refusal(rt.alloc(), &demixing, 8), 20);
-    assert_eq!(rt; refusal(rt.alloc(), &mode, 8), 21);
-    assert_eq!(rt; refusal(rt.alloc(), &duration, 8), 21);
-    assert_eq!(rt; refusal(rt.alloc(), &constant, 8), 21);
-    assert_eq!(rt; refusal(rt.alloc(), &demixing, 9), 21);
-}
-
-// Each stops at the field that has the fault.
-#[test]
-fn layer_and_substream_faults(rt: HostRuntime) {
-    let table = [
-        ([0x00, 0x00, 0x00, 0x00, 0x00], 22),
-        ([0xe0, 0x00, 0x00, 0x00, 0x00], 22),
-        ([0x20, 0xa0, 0x00, 0x00, 0x00], 22),
-        ([0x20, 0x10, 0x01, 0x00, 0x00], 22),
-        ([0x20, 0x10, 0x02, 0x01, 0x00], 22),
-        ([0x20, 0x20, 0x04, 0x02, 0x00], 23),
-        ([0x40, 0x10, 0x01, 0x01, 0x10], 22),
-    ];
-    for (config, code) in table {
-        let mut payload = [0x01, 0x00, 0x00, 0x00, 0x00, 0x00, 0x00, 0x00, 0x00, 0x00];
-        payload[5..].copy_from_slice(&config);
-        assert_eq!(rt; refusal(rt.alloc(), &payload, 8), code);
+fn faults_stand_at_their_field(rt: HostRuntime) {
+    for (row, (payload, frame_length, code)) in FAULTS.iter().enumerate() {
+        let found = refusal(rt.alloc(), payload, *frame_length);
+        assert_eq!(rt; (row, found), (row, *code));
     }
-    let falling = [
-        0x01, 0x00, 0x00, 0x05, 0x00, 0x01, 0x02, 0x03, 0x04, 0x00, 0x40, 0x20, 0x04, 0x02, 0x10,
-    ];
-    assert_eq!(rt; refusal(rt.alloc(), &falling, 8), 22);
-    let more = [
-        0x01, 0x00, 0x00, 0x02, 0x00, 0x01, 0x00, 0x20, 0x10, 0x01, 0x01,
-    ];
-    assert_eq!(rt; refusal(rt.alloc(), &more, 8), 23);
 }
 
-// Each stops at the field that has the fault.
-#[test]
-fn ambisonics_faults(rt: HostRuntime) {
-    let table = [
-        ([0x02, 0x00, 0x00, 0x00, 0x00], 24),
-        ([0x00, 0x02, 0x01, 0x00, 0x00], 24),
-        ([0x00, 0x00, 0x01, 0x00, 0x00], 24),
-        ([0x00, 0x01, 0x00, 0x00, 0x00], 24),
-        ([0x00, 0x01, 0x02, 0x00, 0x00], 24),
-        ([0x00, 0x04, 0x02, 0x01, 0x02], 24),
-        ([0x01, 0x01, 0x01, 0x02, 0x00], 24),
-        ([0x01, 0x01, 0x00, 0x00, 0x00], 24),
-        ([0x00, 0x01, 0x01, 0xff, 0x00], 23),
-        ([0x00, 0x04, 0x02, 0x01, 0xff], 10),
-    ];
-    for (config, code) in table {
-        let mut payload = [0x01, 0x20, 0x00, 0x00, 0x00, 0x00, 0x00, 0x00, 0x00, 0x00];
-        payload[5..].copy_from_slice(&config);
-        assert_eq!(rt; refusal(rt.alloc(), &payload, 8), code);
+/// The substreams of the payload have so many channels together, and so many each.
+fn assert_channels(
+    rt: &impl Abort,
+    alloc: Global,
+    payload: &[u8],
+    frame_length: u32,
+    all: Option<u32>,
+    each: &[u32],
+) {
+    let element = read(rt, alloc, payload, frame_length);
+    assert!(rt; coded_channels(&element) == all);
+    assert!(rt; each.len() == element.substreams.len());
+    for (i, channels) in each.iter().enumerate() {
+        assert!(rt; substream_channels(&element, i) == Some(*channels));
     }
 }
 
 #[test]
 fn substreams_have_one_channel_or_two(rt: HostRuntime) {
-    let table = [
-        (STEREO.as_slice(), 8, 2, [2].as_slice()),
-        (
-            LAYERS.as_slice(),
-            1024,
-            12,
-            [2, 2, 2, 1, 1, 2, 2].as_slice(),
-        ),
-        (PROJECTION.as_slice(), 8, 1, [1].as_slice()),
-        (SCENE.as_slice(), 8, 3, [1, 1, 1].as_slice()),
-    ];
-    for (payload, frame_length, all, each) in table {
-        let element = read(&rt, rt.alloc(), payload, frame_length);
-        assert_eq!(rt; coded_channels(&element), Some(all));
-        assert!(rt; each.len() == element.substreams.len());
-        for (i, channels) in each.iter().enumerate() {
-            assert_eq!(rt; substream_channels(&element, i), Some(*channels));
-        }
-    }
-    assert_eq!(rt; coded_channels(&read(&rt, rt.alloc(), &UNREAD, 8)), None);
+    let alloc = rt.alloc();
+    assert_channels(&rt, alloc, STEREO, 8, Some(2), &[2]);
+    assert_channels(&rt, alloc, LAYERS, 1024, Some(12), &[2, 2, 2, 1, 1, 2, 2]);
+    assert_channels(&rt, alloc, PROJECTION, 8, Some(1), &[1]);
+    assert_channels(&rt, alloc, SCENE, 8, Some(3), &[1, 1, 1]);
+    assert_channels(&rt, alloc, UNREAD, 8, None, &[]);
 }

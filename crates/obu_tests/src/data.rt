@@ -1,6 +1,8 @@
+//! Parameter blocks, their definitions, and audio frames.
+
 ghost use Rattle.std.specs.Prelude.{◌≡◌, option_map};
 ghost use Rattle.obu_descriptors.specs.TimingView.{view_fixed};
-ghost use Rattle.obu_data.specs.ShapeView.{LastsAFrame};
+ghost use Rattle.obu_data.specs.ShapeView.{LastsAFrame, MayDefine};
 
 use obu_data::*;
 use obu_descriptors::{Fixed, Timing};
@@ -10,8 +12,6 @@ use spec_bits::FieldFault;
 use spec_blocks::BlockFault;
 use std::alloc::{AllocError, Global};
 use std::test::Fail;
-
-const SHORT: BlockFault = BlockFault::Field(FieldFault::Short);
 
 // A timing whose blocks have their own.
 fn own_timing(rate: u32) -> Timing {
@@ -62,210 +62,230 @@ fn definitions(alloc: Global) -> Result<Definitions, Fail> {
     Ok(all)
 }
 
-fn gain_parts<'b>(block: &'b ParameterBlock<'_>) -> &'b [GainPart] {
-    match &block.content {
-        Content::Gain { parts, .. } => parts.as_slice(),
-        _ => &[],
-    }
-}
-
-#[test]
-fn mix_gains_are_read_in_each_timing(rt: HostRuntime) -> Result<(), Fail> {
-    let all = definitions(rt.alloc())?;
-    let step = GainPart::Step { start: 1 };
-    let line = GainPart::Linear {
-        start: 0,
-        end: -1536,
-    };
-    let curve = GainPart::Bezier {
-        start: 0,
-        end: -1536,
-        control: -1536,
-        time: 128,
-    };
-    let cases: [(&[u8], &[GainPart]); 6] = [
-        (b"\x64\x08\x08\x01\0\0\xfa\0", &[line]),
-        (b"\x64\x08\x08\x02\0\0\xfa\0\xfa\0\x80", &[curve]),
-        (
-            b"\x64\x08\x03\x00\0\x01\x00\0\x01\x01\0\0\xfa\0",
-            &[step, step, line],
-        ),
-        (
-            b"\x64\x08\x00\x02\x05\x00\0\x01\x03\x01\0\0\xfa\0",
-            &[step, line],
-        ),
-        (
-            b"\x65\x00\0\x01\x00\0\x01\x01\0\0\xfa\0",
-            &[step, step, line],
-        ),
-        (b"\x67\x00\0\x01\x01\0\0\xfa\0", &[step, line]),
-    ];
-    for (payload, parts) in cases {
-        let block = read_block(rt.alloc(), &all, payload)?;
-        assert_eq!(rt; gain_parts(&block), parts, "{payload:?}");
-        assert_eq!(rt; block.tail, b"".as_slice(), "{payload:?}");
-    }
-    Ok(())
-}
-
-#[test]
-fn a_block_keeps_its_own_durations(rt: HostRuntime) -> Result<(), Fail> {
-    let all = definitions(rt.alloc())?;
-    let block = read_block(
-        rt.alloc(),
-        &all,
+// A payload, and what is read.
+const READ: &[(&[u8], &str)] = &[
+    // Mix gains in each timing: a line, a curve, subblocks of three ticks, and of five and three.
+    (
+        b"\x64\x08\x08\x01\0\0\xfa\0",
+        "Ok(ParameterBlock { id: 100, content: Gain { timing: \
+         Some(Fixed { duration: 8, constant: 8, durations: [] }), parts: \
+         [Linear { start: 0, end: -1536 }] }, tail: [] })",
+    ),
+    (
+        b"\x64\x08\x08\x02\0\0\xfa\0\xfa\0\x80",
+        "Ok(ParameterBlock { id: 100, content: Gain { timing: \
+         Some(Fixed { duration: 8, constant: 8, durations: [] }), parts: \
+         [Bezier { start: 0, end: -1536, control: -1536, time: 128 }] }, tail: [] })",
+    ),
+    (
+        b"\x64\x08\x03\x00\0\x01\x00\0\x01\x01\0\0\xfa\0",
+        "Ok(ParameterBlock { id: 100, content: Gain { timing: \
+         Some(Fixed { duration: 8, constant: 3, durations: [] }), parts: \
+         [Step { start: 1 }, Step { start: 1 }, Linear { start: 0, end: -1536 }] }, tail: [] })",
+    ),
+    (
+        b"\x64\x08\x00\x02\x05\x00\0\x01\x03\x01\0\0\xfa\0",
+        "Ok(ParameterBlock { id: 100, content: Gain { timing: \
+         Some(Fixed { duration: 8, constant: 0, durations: [5, 3] }), parts: \
+         [Step { start: 1 }, Linear { start: 0, end: -1536 }] }, tail: [] })",
+    ),
+    (
         b"\x64\x08\x00\x02\x05\x00\0\x01\x03\x00\0\x01",
-    )?;
-    let Content::Gain {
-        timing: Some(fixed),
-        ..
-    } = &block.content
-    else {
-        return Err(Fail::new("no timing"));
-    };
-    assert_eq!(rt; fixed.duration, 8);
-    assert_eq!(rt; fixed.constant, 0);
-    assert_eq!(rt; fixed.durations.as_slice(), [5, 3].as_slice());
-    Ok(())
+        "Ok(ParameterBlock { id: 100, content: Gain { timing: \
+         Some(Fixed { duration: 8, constant: 0, durations: [5, 3] }), parts: \
+         [Step { start: 1 }, Step { start: 1 }] }, tail: [] })",
+    ),
+    (
+        b"\x65\x00\0\x01\x00\0\x01\x01\0\0\xfa\0",
+        "Ok(ParameterBlock { id: 101, content: Gain { timing: None, parts: \
+         [Step { start: 1 }, Step { start: 1 }, Linear { start: 0, end: -1536 }] }, tail: [] })",
+    ),
+    (
+        b"\x67\x00\0\x01\x01\0\0\xfa\0",
+        "Ok(ParameterBlock { id: 103, content: Gain { timing: None, parts: \
+         [Step { start: 1 }, Linear { start: 0, end: -1536 }] }, tail: [] })",
+    ),
+    // Recon gains follow their flags, which are 5 and 4095.
+    (
+        b"\x68\x05\xaa\xbb\xff\x1f\x01\x02\x03\x04\x05\x06\x07\x08\x09\x0a\x0b\x0c",
+        "Ok(ParameterBlock { id: 104, content: Recon { layers: \
+         [ReconPart { flags: 5, gains: [170, 187] }, \
+         ReconPart { flags: 4095, gains: [1, 2, 3, 4, 5, 6, 7, 8, 9, 10, 11, 12] }] }, tail: [] })",
+    ),
+    // Demixing, and an id that no definition has.
+    (
+        b"\x66\x00",
+        "Ok(ParameterBlock { id: 102, content: Demix { mode: 0 }, tail: [] })",
+    ),
+    (
+        b"\x66\xa0\x09\x09",
+        "Ok(ParameterBlock { id: 102, content: Demix { mode: 5 }, tail: [9, 9] })",
+    ),
+    (
+        b"\x05\x01\x02\x03",
+        "Ok(ParameterBlock { id: 5, content: Opaque([1, 2, 3]), tail: [] })",
+    ),
+    // No duration; no subblock; an empty one; and a sum that is not the duration, which is found after the last.
+    (b"\x64\x00", "Err(Fault(Subblocks))"),
+    (b"\x64\x08\x00\x00", "Err(Fault(Subblocks))"),
+    (b"\x64\x08\x00\x02\x00", "Err(Fault(Subblocks))"),
+    (
+        b"\x64\x08\x00\x02\x05\x00\0\x01\x04\x00\0\x01",
+        "Err(Fault(Subblocks))",
+    ),
+    (
+        b"\x64\x08\x00\x02\x05\x00\0\x01\x04\x00\0",
+        "Err(Fault(Field(Short)))",
+    ),
+    // An animation above 2.
+    (
+        b"\x64\x08\x00\x02\x05\x00\0\x01\x04\x03",
+        "Err(Fault(Animation))",
+    ),
+    (b"\x64\x08\x08\x03", "Err(Fault(Animation))"),
+    (b"\x67\x00\0\x01\x03", "Err(Fault(Animation))"),
+    // Flags of 4096.
+    (b"\x68\x80\x20", "Err(Fault(ReconFlags))"),
+    (b"\x68\x00\x80\x20", "Err(Fault(ReconFlags))"),
+    // Counts of 2^32 - 1, and an id of 2^32.
+    (b"\x64\xff\xff\xff\xff\x0f\x01", "Err(Fault(Field(Short)))"),
+    (
+        b"\x64\x08\x00\xff\xff\xff\xff\x0f",
+        "Err(Fault(Field(Short)))",
+    ),
+    (b"\x80\x80\x80\x80\x10", "Err(Fault(Field(Leb)))"),
+];
+
+/// What is read of the payload, as text.
+fn shown(alloc: Global, all: &Definitions, payload: &[u8]) -> Result<String, AllocError> {
+    format!(in alloc; "{:?}", read_block(alloc, all, payload))
 }
 
 #[test]
-fn recon_gains_follow_their_flags(rt: HostRuntime) -> Result<(), Fail> {
+fn blocks_are_read_or_refused(rt: HostRuntime) -> Result<(), Fail> {
     let all = definitions(rt.alloc())?;
-    let payload = b"\x68\x05\xaa\xbb\xff\x1f\x01\x02\x03\x04\x05\x06\x07\x08\x09\x0a\x0b\x0c";
-    let block = read_block(rt.alloc(), &all, payload)?;
-    let Content::Recon { layers } = &block.content else {
-        return Err(Fail::new("no recon gains"));
-    };
-    let [first, second] = layers.as_slice() else {
-        return Err(Fail::new("not two layers"));
-    };
-    assert_eq!(rt; first.flags, 5);
-    assert_eq!(rt; first.gains.as_slice(), b"\xaa\xbb".as_slice());
-    assert_eq!(rt; second.flags, 4095);
-    assert_eq!(rt; second.gains.len(), 12);
-    Ok(())
-}
-
-#[test]
-fn demixing_and_unknown_blocks_are_read(rt: HostRuntime) -> Result<(), Fail> {
-    let all = definitions(rt.alloc())?;
-    let block = read_block(rt.alloc(), &all, b"\x66\x00")?;
-    assert!(rt; matches!(block.content, Content::Demix { mode: 0 }));
-    let block = read_block(rt.alloc(), &all, b"\x66\xa0\x09\x09")?;
-    assert!(rt; matches!(block.content, Content::Demix { mode: 5 }));
-    assert_eq!(rt; block.tail, b"\x09\x09".as_slice());
-    let block = read_block(rt.alloc(), &all, b"\x05\x01\x02\x03")?;
-    assert!(rt; matches!(block.content, Content::Opaque(b"\x01\x02\x03")));
-    assert_eq!(rt; block.tail, b"".as_slice());
-    Ok(())
-}
-
-#[test]
-fn blocks_are_refused_at_their_first_fault(rt: HostRuntime) -> Result<(), Fail> {
-    let all = definitions(rt.alloc())?;
-    let cases: [(&[u8], BlockFault); 13] = [
-        (b"\x64\x00", BlockFault::Subblocks),
-        (b"\x64\x08\x00\x00", BlockFault::Subblocks),
-        (b"\x64\x08\x00\x02\x00", BlockFault::Subblocks),
-        (
-            b"\x64\x08\x00\x02\x05\x00\0\x01\x04\x00\0\x01",
-            BlockFault::Subblocks,
-        ),
-        (b"\x64\x08\x00\x02\x05\x00\0\x01\x04\x00\0", SHORT),
-        (
-            b"\x64\x08\x00\x02\x05\x00\0\x01\x04\x03",
-            BlockFault::Animation,
-        ),
-        (b"\x64\x08\x08\x03", BlockFault::Animation),
-        (b"\x67\x00\0\x01\x03", BlockFault::Animation),
-        (b"\x68\x80\x20", BlockFault::ReconFlags),
-        (b"\x68\x00\x80\x20", BlockFault::ReconFlags),
-        (b"\x64\xff\xff\xff\xff\x0f\x01", SHORT),
-        (b"\x64\x08\x00\xff\xff\xff\xff\x0f", SHORT),
-        (b"\x80\x80\x80\x80\x10", BlockFault::Field(FieldFault::Leb)),
-    ];
-    for (payload, fault) in cases {
-        let read = read_block(rt.alloc(), &all, payload);
-        assert!(rt;
-            matches!(read, Err(BlockError::Fault(found)) if found == fault),
-            "{payload:?}"
-        );
+    for (payload, text) in READ {
+        let found = shown(rt.alloc(), &all, payload)?;
+        assert_eq!(rt; found.as_str(), *text);
     }
     Ok(())
 }
+
+/// How many fronts of the payload lack a field, from the empty one on.
+fn short_fronts(alloc: Global, all: &Definitions, payload: &[u8]) -> usize {
+    for n in 0..payload.len() {
+        match read_block(alloc, all, &payload[..n]) {
+            Err(BlockError::Fault(BlockFault::Field(FieldFault::Short))) => {}
+            _ => return n,
+        }
+    }
+    payload.len()
+}
+
+const WHOLE: &[&[u8]] = &[
+    b"\x64\x08\x08\x02\0\0\xfa\0\xfa\0\x80",
+    b"\x64\x08\x00\x02\x05\x00\0\x01\x03\x01\0\0\xfa\0",
+    b"\x65\x00\0\x01\x00\0\x01\x01\0\0\xfa\0",
+    b"\x66\x00",
+    b"\x68\x05\xaa\xbb\x01\xcc",
+];
 
 #[test]
 fn every_cut_block_is_short(rt: HostRuntime) -> Result<(), Fail> {
     let all = definitions(rt.alloc())?;
-    let whole: [&[u8]; 5] = [
-        b"\x64\x08\x08\x02\0\0\xfa\0\xfa\0\x80",
-        b"\x64\x08\x00\x02\x05\x00\0\x01\x03\x01\0\0\xfa\0",
-        b"\x65\x00\0\x01\x00\0\x01\x01\0\0\xfa\0",
-        b"\x66\x00",
-        b"\x68\x05\xaa\xbb\x01\xcc",
-    ];
-    for payload in whole {
-        for end in 0..payload.len() {
-            let read = read_block(rt.alloc(), &all, &payload[..end]);
-            assert!(rt;
-                matches!(read, Err(BlockError::Fault(SHORT))),
-                "{payload:?} {end}"
-            );
-        }
+    for payload in WHOLE {
+        assert_eq!(rt; short_fronts(rt.alloc(), &all, payload), payload.len());
     }
     Ok(())
+}
+
+// A payload, and how what is read of it is written.
+const WRITTEN: &[(&[u8], &[u8])] = &[
+    (b"\x64\x08\x08\x01\0\0\xfa\0", b"\x64\x08\x08\x01\0\0\xfa\0"),
+    (
+        b"\x64\x08\x08\x02\0\0\xfa\0\xfa\0\x80",
+        b"\x64\x08\x08\x02\0\0\xfa\0\xfa\0\x80",
+    ),
+    (
+        b"\xe4\x00\x88\x00\x80\x00\x81\x00\x88\x00\x80\x00\0\x01",
+        b"\x64\x08\x00\x01\x08\x00\0\x01",
+    ),
+    (
+        b"\x67\x00\0\x01\x01\0\0\xfa\0",
+        b"\x67\x00\0\x01\x01\0\0\xfa\0",
+    ),
+    (b"\x66\x3f\x09", b"\x66\x20\x09"),
+    (b"\x68\x85\x00\xaa\xbb\x01\xcc", b"\x68\x05\xaa\xbb\x01\xcc"),
+    (b"\x85\x00\x81\x00", b"\x05\x81\x00"),
+];
+
+/// What is read of the payload, written again.
+fn written(alloc: Global, all: &Definitions, payload: &[u8]) -> Result<Vec<u8>, Fail> {
+    let block = read_block(alloc, all, payload)?;
+    Ok(write_block(alloc, all, &block)?)
 }
 
 #[test]
 fn blocks_are_written_canonically(rt: HostRuntime) -> Result<(), Fail> {
     let all = definitions(rt.alloc())?;
-    let cases: [(&[u8], &[u8]); 7] = [
-        (b"\x64\x08\x08\x01\0\0\xfa\0", b"\x64\x08\x08\x01\0\0\xfa\0"),
-        (
-            b"\x64\x08\x08\x02\0\0\xfa\0\xfa\0\x80",
-            b"\x64\x08\x08\x02\0\0\xfa\0\xfa\0\x80",
-        ),
-        (
-            b"\xe4\x00\x88\x00\x80\x00\x81\x00\x88\x00\x80\x00\0\x01",
-            b"\x64\x08\x00\x01\x08\x00\0\x01",
-        ),
-        (
-            b"\x67\x00\0\x01\x01\0\0\xfa\0",
-            b"\x67\x00\0\x01\x01\0\0\xfa\0",
-        ),
-        (b"\x66\x3f\x09", b"\x66\x20\x09"),
-        (b"\x68\x85\x00\xaa\xbb\x01\xcc", b"\x68\x05\xaa\xbb\x01\xcc"),
-        (b"\x85\x00\x81\x00", b"\x05\x81\x00"),
-    ];
-    for (payload, canonical) in cases {
-        let block = read_block(rt.alloc(), &all, payload)?;
-        let written = write_block(rt.alloc(), &all, &block)?;
-        assert_eq!(rt; written.as_slice(), canonical, "{payload:?}");
+    for (payload, canonical) in WRITTEN {
+        let found = written(rt.alloc(), &all, payload)?;
+        assert_eq!(rt; found.as_slice(), *canonical);
     }
     Ok(())
 }
 
+/// Whether the shape clashes with that of the id. Else it is the one that the id has from now on.
+fn clashes(all: &mut Definitions, id: u32, shape: Shape) -> bool
+    requires { MayDefine shape }
+{
+    matches!(all.add(id, shape), Err(DefinitionError::Clash(_)))
+}
+
 #[test]
-fn another_shape_clashes_and_changes_nothing(rt: HostRuntime) -> Result<(), Fail> {
+fn another_shape_clashes(rt: HostRuntime) -> Result<(), Fail> {
     let alloc = rt.alloc();
     let mut all = definitions(alloc)?;
-    all.add(100, Shape::Gain(own_timing(48000)))?;
-    all.add(103, Shape::Gain(eight_ticks(alloc, &[5, 3])?))?;
-    all.add(104, Shape::Recon(frame_timing(alloc, 48000), 3, 6))?;
-    let others = [
-        all.add(100, Shape::Gain(own_timing(44100))),
-        all.add(100, Shape::Gain(frame_timing(alloc, 48000))),
-        all.add(103, Shape::Gain(eight_ticks(alloc, &[3, 5])?)),
-        all.add(102, Shape::Gain(frame_timing(alloc, 48000))),
-        all.add(104, Shape::Recon(frame_timing(alloc, 48000), 3, 4)),
-        all.add(104, Shape::Recon(frame_timing(alloc, 48000), 4, 6)),
+    let five_and_three = eight_ticks(alloc, &[5, 3])?;
+    let three_and_five = eight_ticks(alloc, &[3, 5])?;
+    let found = [
+        clashes(&mut all, 100, Shape::Gain(own_timing(48000))),
+        clashes(&mut all, 103, Shape::Gain(five_and_three)),
+        clashes(
+            &mut all,
+            104,
+            Shape::Recon(frame_timing(alloc, 48000), 3, 6),
+        ),
+        clashes(&mut all, 100, Shape::Gain(own_timing(44100))),
+        clashes(&mut all, 100, Shape::Gain(frame_timing(alloc, 48000))),
+        clashes(&mut all, 103, Shape::Gain(three_and_five)),
+        clashes(&mut all, 102, Shape::Gain(frame_timing(alloc, 48000))),
+        clashes(
+            &mut all,
+            104,
+            Shape::Recon(frame_timing(alloc, 48000), 3, 4),
+        ),
+        clashes(
+            &mut all,
+            104,
+            Shape::Recon(frame_timing(alloc, 48000), 4, 6),
+        ),
     ];
-    for other in others {
-        assert!(rt; matches!(other, Err(DefinitionError::Clash(_))));
-    }
-    let block = read_block(alloc, &all, b"\x66\x00")?;
-    assert!(rt; matches!(block.content, Content::Demix { mode: 0 }));
+    assert_eq!(rt;
+        found,
+        [false, false, false, true, true, true, true, true, true]
+    );
+    Ok(())
+}
+
+#[test]
+fn a_clash_changes_nothing(rt: HostRuntime) -> Result<(), Fail> {
+    let mut all = definitions(rt.alloc())?;
+    assert!(rt; clashes(&mut all, 102, Shape::Gain(own_timing(48000))));
+    let found = shown(rt.alloc(), &all, b"\x66\x00")?;
+    assert!(rt;
+        found.as_str() == "Ok(ParameterBlock { id: 102, content: Demix { mode: 0 }, tail: [] })"
+    );
     Ok(())
 }
 
@@ -285,34 +305,49 @@ fn frame_obu(kind: u8, trim: Option<Trim>, payload: &[u8]) -> ObuView<'_>
     }
 }
 
-#[test]
-fn frames_have_their_substream(rt: HostRuntime) -> Result<(), Fail> {
-    let trim = Trim { end: 3, start: 5 };
-    let none = Trim { end: 0, start: 0 };
-    let explicit = read_frame(&frame_obu(5, Some(trim), b"\x80\x01\xaa\xbb"))?;
-    assert_eq!(rt; explicit.substream, 128);
-    assert_eq!(rt; explicit.trim, trim);
-    assert_eq!(rt; explicit.bytes, b"\xaa\xbb".as_slice());
-    let long = read_frame(&frame_obu(5, None, b"\x83\x00\xaa"))?;
-    assert_eq!(rt; long.substream, 3);
-    assert_eq!(rt; long.trim, none);
-    assert_eq!(rt; long.bytes, b"\xaa".as_slice());
-    for kind in 6..=23u8 {
-        let frame = read_frame(&frame_obu(kind, None, b"\x80\x01"))?;
-        assert_eq!(rt; frame.substream, u32::from(kind) - 6);
-        assert_eq!(rt; frame.bytes, b"\x80\x01".as_slice());
+/// What is read of a frame: its substream, its trim and its bytes.
+type Frame<'a> = Result<(u32, Trim, &'a [u8]), FieldFault>;
+
+fn frame_of(kind: u8, trim: Option<Trim>, payload: &[u8]) -> Frame<'_> {
+    if kind < 5 || kind > 23 {
+        return Err(FieldFault::Short);
     }
-    assert!(rt;
-        matches!(
-            read_frame(&frame_obu(5, None, b"\x80")),
-            Err(FieldFault::Short)
-        )
-    );
-    assert!(rt;
-        matches!(
-            read_frame(&frame_obu(5, None, b"\x80\x80\x80\x80\x10")),
-            Err(FieldFault::Leb)
-        )
-    );
-    Ok(())
+    match read_frame(&frame_obu(kind, trim, payload)) {
+        Ok(frame) => Ok((frame.substream, frame.trim, frame.bytes)),
+        Err(fault) => Err(fault),
+    }
+}
+
+const TRIM: Trim = Trim { end: 3, start: 5 };
+
+const NO_TRIM: Trim = Trim { end: 0, start: 0 };
+
+// A frame that names its substream: its trim and its payload, and what is read.
+const FRAMES: &[(Option<Trim>, &[u8], Frame<'static>)] = &[
+    (
+        Some(TRIM),
+        b"\x80\x01\xaa\xbb",
+        Ok((128, TRIM, b"\xaa\xbb")),
+    ),
+    (None, b"\x83\x00\xaa", Ok((3, NO_TRIM, b"\xaa"))),
+    (None, b"\x80", Err(FieldFault::Short)),
+    (None, b"\x80\x80\x80\x80\x10", Err(FieldFault::Leb)),
+];
+
+#[test]
+fn frames_have_their_substream(rt: HostRuntime) {
+    for (trim, payload, wanted) in FRAMES {
+        assert_eq!(rt; frame_of(5, *trim, payload), *wanted);
+    }
+}
+
+#[test]
+fn types_6_to_23_are_of_the_first_substreams(rt: HostRuntime) {
+    for substream in 0..18u8 {
+        let found = frame_of(6 + substream, None, b"\x80\x01");
+        assert_eq!(rt;
+            found,
+            Ok((u32::from(substream), NO_TRIM, b"\x80\x01".as_slice()))
+        );
+    }
 }

@@ -4,6 +4,8 @@
 #[cfg(test)]
 mod audio_elements;
 #[cfg(test)]
+mod changed;
+#[cfg(test)]
 mod data;
 #[cfg(test)]
 mod descriptors;

@@ -1,5 +1,5 @@
 //! `mux` and `demux`.
-use super::case::Case;
+use super::case::{Case, PLAIN, whole};
 use super::parts::{DELIMITER, DESCRIPTORS, HEAD, SAMPLES};
 use crate::status::Status;
 use std::test::Fail;
@@ -22,5 +22,33 @@ fn what_has_no_file_or_no_sequence_is_refused(rt: HostRuntime) -> Result<(), Fai
         &rt,
         rt.alloc(),
     )?;
+    Ok(())
+}
+
+/// Which call of a sink that takes 10 bytes fails, and how many bytes of the bare sequence it then has. The last is a flush.
+const FAILING: &[(u64, usize)] = &[(0, 0), (3, 30), (10, 100), (11, 102)];
+
+/// A run of `demux` into a sink that takes 10 bytes at a time, of whose calls these fail.
+fn cut<'a>(input: &'a [&'a [u8]], write_fails: &'a [u64], out: &'a [&'a [u8]]) -> Case<'a> {
+    Case {
+        words: &["demux"],
+        input,
+        most: 10,
+        write_fails,
+        status: Status::WriteFault,
+        out,
+        notes: b"write failed\n",
+        ..PLAIN
+    }
+}
+
+#[test]
+fn a_sink_that_fails_has_a_front_of_the_sequence(rt: HostRuntime) -> Result<(), Fail> {
+    let written = Case::writes(&["mux"], ONE_UNIT, &[]).came(rt.alloc())?;
+    let bare = whole(rt.alloc(), ONE_UNIT)?;
+    for (call, count) in FAILING {
+        assert!(rt; *count <= bare.len());
+        cut(&[&written.out], &[*call], &[&bare[..*count]]).check(&rt, rt.alloc())?;
+    }
     Ok(())
 }

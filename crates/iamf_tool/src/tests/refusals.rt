@@ -255,7 +255,7 @@ const OF_UNITS: &[Refused] = &[
 #[test]
 fn inputs_are_refused_by_their_first_fault(rt: HostRuntime) -> Result<(), Fail> {
     for rows in [HEADERS_AND_PAYLOADS, OF_DESCRIPTORS, OF_UNITS] {
-        for (row, (input, notes)) in rows.iter().enumerate() {
+        for (input, notes) in rows {
             Case::refuses(&["check"], input, notes).check(&rt, rt.alloc())?;
         }
     }

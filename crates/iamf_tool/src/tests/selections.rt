@@ -1,10 +1,9 @@
 //! `play`: words that say it, and mixes that are not played.
-use super::case::Case;
+use super::case::{Case, whole};
 use super::parts::{
     BLOCK, CODEC, DELIMITER, DESCRIPTORS, ELEMENT, HEAD, HEADER, MIX, ONE_OUTPUT, SAMPLES,
 };
 use super::wave_parts::{MIX_ABOVE, ONE, STEREO_51};
-use crate::status::Status;
 use std::alloc::{AllocError, Global};
 use std::test::Fail;
 
@@ -54,6 +53,11 @@ const FRAMES: &[u8] =
     b"\x30\x04\x01\x00\x02\x00\x38\x04\x03\x00\x04\x00\x40\x02\x05\x00\x48\x02\x06\x00";
 
 const UNPLAYABLE: &[Unplayable] = &[
+    // Bytes that are no sequence are refused before the mix is looked for.
+    ("3", "stereo", &[], b"refused 0 35\n"),
+    // The least id and the greatest, which no mix has.
+    ("0", "7.1.4", &[DESCRIPTORS], b"unplayable 50\n"),
+    ("4294967295", "7.1.4", &[DESCRIPTORS], b"unplayable 50\n"),
     // No mix has the id.
     (
         "3",
@@ -249,44 +253,26 @@ fn mixes_are_not_played_by_the_first_rule(rt: HostRuntime) -> Result<(), Fail> {
     for (mix, target, input, notes) in UNPLAYABLE {
         Case::refuses(&["play", *mix, *target], input, notes).check(&rt, rt.alloc())?;
     }
-    // Bytes that are no sequence are refused before the mix is looked for.
-    Case::refuses(&["play", "3", "stereo"], &[], b"refused 0 35\n").check(&rt, rt.alloc())?;
     Ok(())
 }
 
+const NO_COMMANDS: &[&[&str]] = &[
+    &["play"],
+    &["play", "2"],
+    &["play", "02", "stereo"],
+    &["play", "+2", "stereo"],
+    &["play", "", "stereo"],
+    &["play", "4294967296", "stereo"],
+    &["play", "2", "binaural"],
+    &["play", "2", "Stereo"],
+    &["play", "stereo", "2"],
+    &["play", "2", "stereo", ""],
+];
+
 #[test]
 fn words_that_name_no_mix_or_no_target_read_nothing(rt: HostRuntime) -> Result<(), Fail> {
-    let none: &[&[&str]] = &[
-        &["play"],
-        &["play", "2"],
-        &["play", "02", "stereo"],
-        &["play", "+2", "stereo"],
-        &["play", "", "stereo"],
-        &["play", "4294967296", "stereo"],
-        &["play", "2", "binaural"],
-        &["play", "2", "Stereo"],
-        &["play", "stereo", "2"],
-        &["play", "2", "stereo", ""],
-    ];
-    for words in none {
-        let usage = Case {
-            // Even the first read would fail.
-            read_fails: &[0],
-            ..Case::ends(
-                words,
-                &[],
-                Status::Usage,
-                &[],
-                b"usage: iamf_tool COMMAND < INPUT > OUTPUT\n",
-            )
-        };
-        usage.check(&rt, rt.alloc())?;
-    }
-    for mix in ["0", "4294967295"] {
-        Case::refuses(&["play", mix, "7.1.4"], &[DESCRIPTORS], b"unplayable 50\n").check(
-            &rt,
-            rt.alloc(),
-        )?;
+    for words in NO_COMMANDS {
+        Case::says_nothing(words, &[]).check(&rt, rt.alloc())?;
     }
     Ok(())
 }
@@ -305,12 +291,7 @@ const OUTPUTS_HEAD: &[u8] = b"\x08\xea\x01\x01\x20\x00\x01\x00\x00\x00\xe1\x01";
 
 /// A sequence of so many frames, each of which plays as 58981500 bytes.
 fn with_long_frames(alloc: Global, count: usize) -> Result<Vec<u8>, AllocError> {
-    let mut bytes = Vec::new(alloc);
-    bytes.extend_from_slice(HEADER)?;
-    bytes.extend_from_slice(LONG_FLAC)?;
-    bytes.extend_from_slice(OUTPUTS_HEAD)?;
-    bytes.extend_from_slice(&[0; 225])?;
-    bytes.extend_from_slice(MIX)?;
+    let mut bytes = whole(alloc, &[HEADER, LONG_FLAC, OUTPUTS_HEAD, &[0; 225], MIX])?;
     for _ in 0..count {
         bytes.extend_from_slice(LONG_FRAME)?;
     }
@@ -321,7 +302,6 @@ fn with_long_frames(alloc: Global, count: usize) -> Result<Vec<u8>, AllocError> 
 fn a_wave_above_four_gibibytes_is_not_written(rt: HostRuntime) -> Result<(), Fail> {
     let bytes = with_long_frames(rt.alloc(), 73)?;
     let input = &[bytes.as_slice()];
-    let long = Case::refuses(&["play", "2", "acn"], input, b"unplayable 61\n");
-    long.check(&rt, rt.alloc())?;
+    Case::refuses(&["play", "2", "acn"], input, b"unplayable 61\n").check(&rt, rt.alloc())?;
     Ok(())
 }

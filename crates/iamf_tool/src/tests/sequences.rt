@@ -1,11 +1,12 @@
 //! `check` and `canon` on worked examples.
-use super::case::{Case, encoded, reported, whole};
+use super::case::{Case, PLAIN, check_all, encoded, encoded_obus, reported, whole};
 use super::parts::{
     BLOCK, CODEC, DELIMITER, DESCRIPTORS, ELEMENT, FLAC, FLAC_FRAME, FOUR_OUTPUTS, HEAD, HEADER,
     MIX, MIX_OF_BOTH, MONO, ONE_OUTPUT, OPUS, SAMPLES, SECOND_ELEMENT,
 };
 use crate::status::Status;
 use std::alloc::{AllocError, Global};
+use std::process::Abort;
 use std::test::Fail;
 
 /// The parts of an input, and those of its output.
@@ -166,21 +167,19 @@ const REPORTS: &[Written] = &[
 
 #[test]
 fn sequences_are_reported(rt: HostRuntime) -> Result<(), Fail> {
-    for (row, (input, report)) in REPORTS.iter().enumerate() {
+    for (input, report) in REPORTS {
         Case::writes(&["check"], input, report).check(&rt, rt.alloc())?;
-        let kept = reported(&rt, rt.alloc(), input)?;
-        let wanted = whole(rt.alloc(), report)?;
-        assert_eq!(rt; kept.as_slice(), wanted.as_slice(), "kept, row {row}");
     }
-    let in_pieces_of_one = Case {
-        piece: 1,
-        ..Case::writes(
-            &["check"],
-            &[DESCRIPTORS, DELIMITER, HEAD, SAMPLES],
-            &[LINES, ONE_UNIT],
-        )
-    };
-    in_pieces_of_one.check(&rt, rt.alloc())?;
+    Ok(())
+}
+
+#[test]
+fn kept_sequences_have_the_same_report(rt: HostRuntime) -> Result<(), Fail> {
+    for (input, report) in REPORTS {
+        let wanted = whole(rt.alloc(), report)?;
+        let found = reported(&rt, rt.alloc(), input)?;
+        assert_eq!(rt; found.as_slice(), wanted.as_slice());
+    }
     Ok(())
 }
 
@@ -240,48 +239,63 @@ const SPELLINGS: &[Written] = &[
 
 #[test]
 fn sequences_are_spelled_canonically(rt: HostRuntime) -> Result<(), Fail> {
-    for (row, (input, spelling)) in SPELLINGS.iter().enumerate() {
+    for (input, spelling) in SPELLINGS {
         Case::writes(&["canon"], input, spelling).check(&rt, rt.alloc())?;
-        let (all, parts) = encoded(&rt, rt.alloc(), input)?;
-        let wanted = whole(rt.alloc(), spelling)?;
-        assert_eq!(rt; all.as_slice(), wanted.as_slice(), "kept, row {row}");
-        assert_eq!(rt;
-            parts.as_slice(),
-            wanted.as_slice(),
-            "one by one, row {row}"
-        );
     }
-    let refused = Case::refuses(&["canon"], &[HEADER, OPUS, ELEMENT, MIX], b"refused 8 13\n");
-    refused.check(&rt, rt.alloc())?;
+    Case::refuses(&["canon"], &[HEADER, OPUS, ELEMENT, MIX], b"refused 8 13\n").check(
+        &rt,
+        rt.alloc(),
+    )?;
     Ok(())
 }
 
 #[test]
-fn failures_of_the_outside_end_the_commands(rt: HostRuntime) -> Result<(), Fail> {
-    let third_read = Case {
+fn kept_sequences_have_the_same_spelling(rt: HostRuntime) -> Result<(), Fail> {
+    for (input, spelling) in SPELLINGS {
+        let wanted = whole(rt.alloc(), spelling)?;
+        let found = encoded(&rt, rt.alloc(), input)?;
+        assert_eq!(rt; found.as_slice(), wanted.as_slice());
+        let obus = encoded_obus(&rt, rt.alloc(), input)?;
+        assert!(rt; obus.as_slice() == wanted.as_slice());
+    }
+    Ok(())
+}
+
+const SEQUENCE: &[&[u8]] = &[DESCRIPTORS, DELIMITER, HEAD, SAMPLES];
+
+// Pieces of one byte, and the failures of the third read and of the second write.
+const OUTSIDE: &[Case<'static>] = &[
+    Case {
+        words: &["check"],
+        input: SEQUENCE,
+        piece: 1,
+        out: &[LINES, ONE_UNIT],
+        ..PLAIN
+    },
+    Case {
+        words: &["check"],
+        input: SEQUENCE,
         piece: 40,
         read_fails: &[2],
-        ..Case::ends(
-            &["check"],
-            &[DESCRIPTORS, DELIMITER, HEAD, SAMPLES],
-            Status::ReadFault,
-            &[],
-            b"read failed\n",
-        )
-    };
-    third_read.check(&rt, rt.alloc())?;
-    let second_write = Case {
+        status: Status::ReadFault,
+        notes: b"read failed\n",
+        ..PLAIN
+    },
+    Case {
+        words: &["canon"],
+        input: SEQUENCE,
         most: 10,
         write_fails: &[1],
-        ..Case::ends(
-            &["canon"],
-            &[DESCRIPTORS, DELIMITER, HEAD, SAMPLES],
-            Status::WriteFault,
-            &[b"\xf8\x06iamf\x00\x00\x00\x0e"],
-            b"write failed\n",
-        )
-    };
-    second_write.check(&rt, rt.alloc())?;
+        status: Status::WriteFault,
+        out: &[b"\xf8\x06iamf\x00\x00\x00\x0e"],
+        notes: b"write failed\n",
+        ..PLAIN
+    },
+];
+
+#[test]
+fn the_outside_gives_pieces_or_fails(rt: HostRuntime) -> Result<(), Fail> {
+    check_all(&rt, rt.alloc(), OUTSIDE)?;
     Ok(())
 }
 
@@ -300,33 +314,34 @@ fn fault_of_front(count: usize) -> Option<(usize, u8)> {
     }
 }
 
+/// A front is refused so, or is a sequence without a unit.
+fn check_front(
+    rt: &impl Abort,
+    alloc: Global,
+    front: &[u8],
+    fault: Option<(usize, u8)>,
+) -> Result<(), AllocError> {
+    match fault {
+        Some((at, code)) => {
+            let notes = format!(in alloc; "refused {at} {code}\n")?;
+            Case::refuses(&["check"], &[front], notes.as_bytes()).check(rt, alloc)
+        }
+        None => Case::writes(&["check"], &[front], &[LINES, NO_UNIT]).check(rt, alloc),
+    }
+}
+
 #[test]
 fn fronts_of_a_sequence_are_refused(rt: HostRuntime) -> Result<(), Fail> {
-    let bytes = whole(rt.alloc(), &[DESCRIPTORS, DELIMITER, HEAD, SAMPLES])?;
+    let bytes = whole(rt.alloc(), SEQUENCE)?;
     for count in 0..bytes.len() {
-        let front = &[&bytes[..count]];
-        match fault_of_front(count) {
-            Some((at, code)) => {
-                let notes = format!(in rt.alloc(); "refused {at} {code}\n")?;
-                let refused = Case::refuses(&["check"], front, notes.as_bytes());
-                refused.check(&rt, rt.alloc())?;
-            }
-            None => {
-                let written = Case::writes(&["check"], front, &[LINES, NO_UNIT]);
-                written.check(&rt, rt.alloc())?;
-            }
-        }
+        check_front(&rt, rt.alloc(), &bytes[..count], fault_of_front(count))?;
     }
     Ok(())
 }
 
 /// The descriptors, and a reserved OBU of 2^21 - 4 bytes after its size, whose least byte is this.
 fn with_long_obu(alloc: Global, size: u8) -> Result<Vec<u8>, AllocError> {
-    let mut bytes = whole(alloc, &[DESCRIPTORS])?;
-    bytes.push(0xc0)?;
-    bytes.push(size)?;
-    bytes.push(0xff)?;
-    bytes.push(0x7f)?;
+    let mut bytes = whole(alloc, &[DESCRIPTORS, &[0xc0, size, 0xff, 0x7f]])?;
     for _ in 0..2097148 {
         bytes.push(0)?;
     }

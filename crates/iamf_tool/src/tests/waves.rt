@@ -1,5 +1,5 @@
 //! `play`: WAV files.
-use super::case::Case;
+use super::case::{Case, PLAIN, check_all};
 use super::parts::{
     BLOCK, DELIMITER, DESCRIPTORS, ELEMENT, FLAC, FLAC_FRAME, FOUR_OUTPUTS, HEAD, HEADER, MIX,
     MIX_OF_BOTH, ONE_OUTPUT, SAMPLES, SECOND_ELEMENT,
@@ -344,30 +344,29 @@ const HEAD_OF_WAVE: &[&[u8]] = &[
     b"data\x20\x00\x00\x00",
 ];
 
+const FAILURES: &[Case<'static>] = &[
+    // The head is written, and then no byte of the unit.
+    Case {
+        words: &["play", "2", "stereo"],
+        input: ONE_UNIT,
+        write_fails: &[1],
+        status: Status::WriteFault,
+        out: HEAD_OF_WAVE,
+        notes: b"write failed\n",
+        ..PLAIN
+    },
+    Case {
+        words: &["play", "2", "stereo"],
+        input: ONE_UNIT,
+        read_fails: &[0],
+        status: Status::ReadFault,
+        notes: b"read failed\n",
+        ..PLAIN
+    },
+];
+
 #[test]
 fn failures_of_the_outside_end_a_wave(rt: HostRuntime) -> Result<(), Fail> {
-    // The head is written, and then no byte of the unit.
-    let second_write = Case {
-        write_fails: &[1],
-        ..Case::ends(
-            &["play", "2", "stereo"],
-            ONE_UNIT,
-            Status::WriteFault,
-            HEAD_OF_WAVE,
-            b"write failed\n",
-        )
-    };
-    second_write.check(&rt, rt.alloc())?;
-    let first_read = Case {
-        read_fails: &[0],
-        ..Case::ends(
-            &["play", "2", "stereo"],
-            ONE_UNIT,
-            Status::ReadFault,
-            &[],
-            b"read failed\n",
-        )
-    };
-    first_read.check(&rt, rt.alloc())?;
+    check_all(&rt, rt.alloc(), FAILURES)?;
     Ok(())
 }

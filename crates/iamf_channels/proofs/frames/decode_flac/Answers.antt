@@ -1,9 +1,7 @@
-use Rattle.std.proofs.Common.{arith, ◌≡◌, ◌<◌, ◌≤◌, ◌^◌, ℕ, pos, unsigned_abs, [], get_or, sym, ap, subst, ◌∙◌, ℤ}
-use Rattle.spec_play.specs.CodedSamples.{flac_rows}
+use Rattle.std.proofs.Common.{arith, ◌<◌, ◌≤◌, ◌^◌, pos, unsigned_abs, [], get_or, sym, ap, subst, ◌∙◌, ℤ}
 use Rattle.spec_flac.specs.Frame.{IsFrame}
 use Rattle.spec_flac.proofs.Framing.{exact_frame}
 use Rattle.spec_play.proofs.FrameRows.{rows_are_of_frame}
-use Rattle.iamf_bits.specs.Rows.{sample_of}
 use Rattle.flac_sub.specs.FrameRows.{rows_of}
 use Rattle.iamf_channels.proofs.FlacSizes.{frame_small}
 use Rattle.iamf_channels.proofs.FrameRows.{rows_sample}

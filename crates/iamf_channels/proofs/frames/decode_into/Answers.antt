@@ -1,4 +1,4 @@
-use Rattle.std.proofs.Common.{◌≤◌, ◌^◌, ℕ, ℤ, unsigned_abs, sym, subst}
+use Rattle.std.proofs.Common.{◌≤◌, ◌^◌, ℤ, unsigned_abs, sym, subst}
 use Rattle.obu_descriptors.specs.declared.codec_config.Coding.{Coding}
 use Rattle.obu_descriptors.specs.declared.codec_config.Coding.TheVariants as coding
 use Rattle.iamf_channels.specs.Decoded.{IsFrameBy}

@@ -1,4 +1,4 @@
-use Rattle.std.proofs.Common.{arith, ◌≡◌, ◌<◌, ℕ, List, get_or, sym, ap, subst, ◌∙◌}
+use Rattle.std.proofs.Common.{arith, ◌≡◌, ℕ, List, get_or, sym, ap, subst, ◌∙◌}
 use Rattle.std.proofs.lemmas.Option.{get_or_from_slice_get}
 use Rattle.spec_descriptors.specs.CodecConfig.{CodecConfigFields}
 use Rattle.spec_sequence.specs.Parts.{FrameValue}

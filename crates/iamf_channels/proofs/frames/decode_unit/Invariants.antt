@@ -1,4 +1,4 @@
-use Rattle.std.proofs.Common.{◌≡◌, ◌<◌, ℕ, length, map, get_or}
+use Rattle.std.proofs.Common.{◌≡◌, ◌<◌, ℕ, map, get_or}
 use Rattle.iamf_channels.specs.Heard.{codec_in, unit_in}
 use Rattle.iamf_channels.specs.Decoded.{no_rows, Holds}
 use Rattle.iamf_channels.proofs.frames.decode_unit.Given as goal

@@ -1,13 +1,10 @@
-use Rattle.std.proofs.Common.{arith, ◌≡◌, ℕ, List, take, sym, ap, ◌∙◌}
+use Rattle.std.proofs.Common.{arith, sym, ap, ◌∙◌}
 use Rattle.std.specs.Option.{option_to_list}
-use Rattle.std.proofs.lemmas.Option.{get_or_from_slice_get}
-use Rattle.spec_sequence.specs.Parts.{UnitValue}
-use Rattle.spec_play.specs.Mixes.{no_unit}
 use Rattle.spec_play.specs.DemixingOverTime.{unit_modes}
 use Rattle.iamf_elements.specs.DemixingView.{view_demixing}
 use Rattle.iamf_elements.proofs.UnitCounts.{count_of_units}
 use Rattle.iamf_channels.specs.Heard.{units_in, unit_in}
-use Rattle.iamf_channels.proofs.ParameterSteps.{mode_below, index_first, some_unreserved, none_unreserved, some_parameters, none_parameters}
+use Rattle.iamf_channels.proofs.ParameterSteps.{mode_found, mode_below, index_first, some_unreserved, none_unreserved, some_parameters, none_parameters}
 use Rattle.iamf_channels.proofs.parameters.taken_on.Goals as goal
 
 pub unit-requires : goal.unit-requires
@@ -17,32 +14,28 @@ pub index_after-index-requires-clause-mode : goal.index_after-index-requires-cla
 index_after-index-requires-clause-mode c =
     let found = c.unit.ensures.is in
     let modes = unit_modes c.args.definition.id (unit_in c.args.sequence.now c.args.u) in
-    let same = get_or_from_slice_get (units_in c.args.sequence.now) c.args.u found.0 no_unit found.1 in
-    let is : option_to_list c.unit_mode-mode.result ≡ take 1 modes = c.unit_mode-mode.ensures found.0 found.2 ∙ ap (λ (v : UnitValue). take 1 (unit_modes c.args.definition.id v)) (sym same) in
+    let is = mode_found (units_in c.args.sequence.now) c.args.definition.id c.args.u found.0 c.unit_mode-mode.result found.1 (c.unit_mode-mode.ensures found.0 found.2) in
     mode_below (view_demixing c.args.definition) modes c.unit_mode-mode.result is c.requires.unreserved
 
 pub params_of-params-requires : goal.params_of-params-requires
 params_of-params-requires c =
     let found = c.unit.ensures.is in
     let modes = unit_modes c.args.definition.id (unit_in c.args.sequence.now c.args.u) in
-    let same = get_or_from_slice_get (units_in c.args.sequence.now) c.args.u found.0 no_unit found.1 in
-    let is : option_to_list c.unit_mode-mode.result ≡ take 1 modes = c.unit_mode-mode.ensures found.0 found.2 ∙ ap (λ (v : UnitValue). take 1 (unit_modes c.args.definition.id v)) (sym same) in
+    let is = mode_found (units_in c.args.sequence.now) c.args.definition.id c.args.u found.0 c.unit_mode-mode.result found.1 (c.unit_mode-mode.ensures found.0 found.2) in
     some_unreserved (view_demixing c.args.definition) modes c.in-Some.code (ap option_to_list (sym c.in-Some.is) ∙ is) c.requires.unreserved
 
 pub params_of-params-requires-in-None : goal.params_of-params-requires-in-None
 params_of-params-requires-in-None c =
     let found = c.unit.ensures.is in
     let modes = unit_modes c.args.definition.id (unit_in c.args.sequence.now c.args.u) in
-    let same = get_or_from_slice_get (units_in c.args.sequence.now) c.args.u found.0 no_unit found.1 in
-    let is : option_to_list c.unit_mode-mode.result ≡ take 1 modes = c.unit_mode-mode.ensures found.0 found.2 ∙ ap (λ (v : UnitValue). take 1 (unit_modes c.args.definition.id v)) (sym same) in
+    let is = mode_found (units_in c.args.sequence.now) c.args.definition.id c.args.u found.0 c.unit_mode-mode.result found.1 (c.unit_mode-mode.ensures found.0 found.2) in
     none_unreserved (view_demixing c.args.definition) modes (ap option_to_list (sym c.in-None.is) ∙ is) c.requires.unreserved
 
 pub returns-in-Some-clause-index : goal.returns-in-Some-clause-index
 returns-in-Some-clause-index c =
     let found = c.unit.ensures.is in
     let modes = unit_modes c.args.definition.id (unit_in c.args.sequence.now c.args.u) in
-    let same = get_or_from_slice_get (units_in c.args.sequence.now) c.args.u found.0 no_unit found.1 in
-    let is : option_to_list c.unit_mode-mode.result ≡ take 1 modes = c.unit_mode-mode.ensures found.0 found.2 ∙ ap (λ (v : UnitValue). take 1 (unit_modes c.args.definition.id v)) (sym same) in
+    let is = mode_found (units_in c.args.sequence.now) c.args.definition.id c.args.u found.0 c.unit_mode-mode.result found.1 (c.unit_mode-mode.ensures found.0 found.2) in
     c.index_after-index.ensures.value ∙ index_first modes c.unit_mode-mode.result c.args.index is
 
 pub returns-in-Some-clause-params : goal.returns-in-Some-clause-params
@@ -50,16 +43,14 @@ returns-in-Some-clause-params c =
     let found = c.unit.ensures.is in
     let unit = unit_in c.args.sequence.now c.args.u in
     let modes = unit_modes c.args.definition.id unit in
-    let same = get_or_from_slice_get (units_in c.args.sequence.now) c.args.u found.0 no_unit found.1 in
-    let is : option_to_list c.unit_mode-mode.result ≡ take 1 modes = c.unit_mode-mode.ensures found.0 found.2 ∙ ap (λ (v : UnitValue). take 1 (unit_modes c.args.definition.id v)) (sym same) in
+    let is = mode_found (units_in c.args.sequence.now) c.args.definition.id c.args.u found.0 c.unit_mode-mode.result found.1 (c.unit_mode-mode.ensures found.0 found.2) in
     some_parameters c.args.definition unit c.index_after-index.result c.in-Some.code c.params_of-params.result (ap option_to_list (sym c.in-Some.is) ∙ is) c.params_of-params.ensures.mode c.params_of-params.ensures.weight
 
 pub returns-in-None-clause-index : goal.returns-in-None-clause-index
 returns-in-None-clause-index c =
     let found = c.unit.ensures.is in
     let modes = unit_modes c.args.definition.id (unit_in c.args.sequence.now c.args.u) in
-    let same = get_or_from_slice_get (units_in c.args.sequence.now) c.args.u found.0 no_unit found.1 in
-    let is : option_to_list c.unit_mode-mode.result ≡ take 1 modes = c.unit_mode-mode.ensures found.0 found.2 ∙ ap (λ (v : UnitValue). take 1 (unit_modes c.args.definition.id v)) (sym same) in
+    let is = mode_found (units_in c.args.sequence.now) c.args.definition.id c.args.u found.0 c.unit_mode-mode.result found.1 (c.unit_mode-mode.ensures found.0 found.2) in
     c.index_after-index.ensures.value ∙ index_first modes c.unit_mode-mode.result c.args.index is
 
 pub returns-in-None-clause-params : goal.returns-in-None-clause-params
@@ -67,7 +58,6 @@ returns-in-None-clause-params c =
     let found = c.unit.ensures.is in
     let unit = unit_in c.args.sequence.now c.args.u in
     let modes = unit_modes c.args.definition.id unit in
-    let same = get_or_from_slice_get (units_in c.args.sequence.now) c.args.u found.0 no_unit found.1 in
-    let is : option_to_list c.unit_mode-mode.result ≡ take 1 modes = c.unit_mode-mode.ensures found.0 found.2 ∙ ap (λ (v : UnitValue). take 1 (unit_modes c.args.definition.id v)) (sym same) in
+    let is = mode_found (units_in c.args.sequence.now) c.args.definition.id c.args.u found.0 c.unit_mode-mode.result found.1 (c.unit_mode-mode.ensures found.0 found.2) in
     none_parameters c.args.definition unit c.index_after-index.result c.params_of-params-in-None.result (ap option_to_list (sym c.in-None.is) ∙ is)
     (record { mode = c.params_of-params-in-None.ensures.mode; weight = c.params_of-params-in-None.ensures.weight })

@@ -1,8 +1,14 @@
-use Rattle.std.proofs.Common.{arith, ◌≡◌, ◌<◌, ◌≤◌, ◌^◌, ◌*◌, ℤ, pos, get_or, unsigned_abs, sym, subst, ◌∙◌}
+use Rattle.std.proofs.Common.{arith, ◌≡◌, ◌<◌, ◌≤◌, ◌^◌, ◌*◌, ℤ, pos, get_or, unsigned_abs, sym, subst, ap, ◌∙◌}
 use Rattle.std.proofs.lemmas.List.{get_or_default}
 use Rattle.spec_play.specs.FixedMix.{gained}
-use Rattle.iamf_mixing.proofs.GainBounds.{gained_small}
+use Rattle.iamf_mixing.proofs.GainBounds.{gained_small, gained_by_one}
 use Rattle.iamf_mixing.proofs.output.apply_output.Goals as goal
+
+pub returns-then-gain-eq-ONE : goal.returns-then-gain-eq-ONE
+returns-then-gain-eq-ONE c = record {
+  value = λ k h. let was = get_or c.args.sums.now k (pos 0) in gained_by_one was ∙ ap (λ g. gained was g) (sym c.if-gain-eq-ONE.true);
+  small = λ k d h. let few = c.requires.sums k d h in omega arith;
+}
 
 pub returns-clause-small : goal.returns-clause-small
 returns-clause-small c = λ k d h.

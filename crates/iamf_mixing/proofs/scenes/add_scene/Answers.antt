@@ -1,6 +1,5 @@
-use Rattle.std.proofs.Common.{arith, ◌≡◌, ◌<◌, ◌≤◌, ◌+◌, ◌^◌, ◌*◌, ℕ, ℤ, length, get_or, pos, ◌+ℤ◌, unsigned_abs, to_z, of_z, ◌∙◌, ap, sym, subst, below_more}
+use Rattle.std.proofs.Common.{arith, ◌≡◌, ◌<◌, ◌≤◌, ◌+◌, ◌^◌, ℤ, length, get_or, pos, ◌+ℤ◌, unsigned_abs, to_z, of_z, ◌∙◌, ap, sym, subst}
 use Rattle.std.proofs.lemmas.Int.{ints}
-use Rattle.std.proofs.Math.ListN.{set}
 use mir.Syntax.{w128}
 use Rattle.spec_play.specs.FixedMix.{gained}
 use Rattle.iamf_mixing.specs.Scenes.{scene_units}

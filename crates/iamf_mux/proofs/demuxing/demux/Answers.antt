@@ -1,10 +1,8 @@
-use Rattle.std.proofs.Common.{◌≤◌, ◌^◌, ℕ, List, length, sym, ◌∙◌, subst}
-use Rattle.mp4_boxes.specs.TrackViews.{track_seen}
-use Rattle.iamf_mux.proofs.BareSize.{bare_small}
+use Rattle.std.proofs.Common.{ℕ, List, sym, subst}
+use Rattle.spec_values.specs.Value.{ObuValue}
+use Rattle.spec_sequence.specs.Reading.{Reads}
+use Rattle.spec_bodies.specs.SequenceFile.{IsBareOf}
 use Rattle.iamf_mux.proofs.demuxing.demux.Goals as goal
 
-pub summarize-requires : goal.summarize-requires
-summarize-requires c =
-    let t = track_seen c.in-Ok.track in
-    subst (λ (b : List ℕ). length b ≤ 2 ^ 40) (sym (c.deref.ensures.value ∙ c.in-Ok-rebuild.ensures.bytes))
-    (bare_small c.args.file.now t.config t.samples c.requires c.in-Ok-rebuild.ensures.few c.in-Ok.ensures.holds)
+pub returns-in-Ok-rebuild : goal.returns-in-Ok-rebuild
+returns-in-Ok-rebuild c = subst (λ (b : List ℕ). IsBareOf c.args.file.now b × (s : List ObuValue) × Reads b s) (sym c.in-Ok-rebuild.ensures.bytes) c.in-Ok.ensures

@@ -1,10 +1,23 @@
-use Rattle.std.proofs.Common.{ℕ, List, subst}
+use Rattle.std.proofs.Common.{ℕ, List, ◌++◌, ◌∙◌, sym, subst, arith}
 use Rattle.iamf_sequence.specs.SequenceValue.{IsRead}
-use Rattle.iamf_mux.specs.Gathering.{slices_of}
-use Rattle.iamf_mux.proofs.OneObu.{begun_of}
+use Rattle.iamf_mux.specs.Gathering.{Slices, slices_of, IsGatheredOf}
+use Rattle.mp4_file.specs.Slices.{joined}
+use Rattle.iamf_mux.proofs.OneObu.{begun_of, ended_of}
+use Rattle.iamf_mux.proofs.Runs.{all_closed}
 use Rattle.iamf_mux.proofs.muxing.gather.Goals as goal
 
 pub loop-i-init : goal.loop-i-init
 loop-i-init c =
     let v = c.args.sequence.now in
-    begun_of v (slices_of c.new-gathered.result) (subst (λ (b : List ℕ). IsRead b v.entries) c.bytes-bytes.ensures.same c.bytes-bytes.ensures.reads) c.new-gathered.ensures
+    begun_of v c.new-gathered.result (c.new-gathered.ensures.same ∙ c.bytes.ensures.same) (subst (λ (b : List ℕ). IsRead b v.entries) c.bytes.ensures.same c.bytes.ensures.reads) c.new-gathered.ensures.none
+
+pub returns-clause-gathered : goal.returns-clause-gathered
+returns-clause-gathered c =
+    let v = c.args.sequence.now in
+    let all = ended_of v c.loop-i.i c.loop-i.gathered (omega (arith, c.loop-i-test.false, c.loop-i.auto.i-end, c.count-i-end.ensures)) c.loop-i.invariant in
+    subst (λ (s : Slices). IsGatheredOf v s) (sym c.in_ok-close.ensures.kept) all
+
+pub returns-clause-closed : goal.returns-clause-closed
+returns-clause-closed c =
+    let g = c.close.new.self in
+    sym (all_closed (joined g.units.items) g.bytes.now g.start g.end c.in_ok-close.ensures.closed)

@@ -1,46 +1,11 @@
-use Rattle.std.proofs.Common.{◌≡◌, ℕ, List, length, ap, ◌∙◌}
-use Rattle.std.specs.Prelude.{IfOk}
-use Rattle.spec_files.specs.MovieFile.{file}
-use Rattle.mp4_file.specs.Slices.{joined}
-use Rattle.iamf_mux.specs.Gathering.{slices_of}
+use Rattle.std.proofs.Common.{ℕ, List, sym, subst}
+use Rattle.spec_bodies.specs.SequenceFile.{IsFileOf}
 use Rattle.iamf_mux.proofs.OneObu.{if_ok}
-use Rattle.iamf_mux.proofs.Movies.{few_units, length_is, rate_is, trimmed_is, kept_is, movie_whole, movie_small, movie_is, file_holds_body}
+use Rattle.iamf_mux.proofs.Movies.{file_holds_body}
 use Rattle.iamf_mux.proofs.muxing.mux.Goals as goal
 
-pub trimmed-requires : goal.trimmed-requires
-trimmed-requires c = let g = c.in_ok-gathered.ensures in few_units c.args.sequence.now g.obus g.are c.requires
-
-pub invariant_of-movie : goal.invariant_of-movie
-invariant_of-movie c =
-    let g = c.in_ok-gathered.ensures in
-    let s = slices_of c.in_ok-gathered.gathered in
-    let d : joined c.deref.result.now ≡ s.descriptors = ap joined c.deref.ensures.value in
-    let u : joined c.deref-2.result.now ≡ s.units = ap joined c.deref-2.ensures.value in
-    let small = movie_small c.args.sequence.now g.obus s c.deref.result.now c.deref-2.result.now c.deref-3.result.now d u c.deref-3.ensures.value g.are c.requires g.gathered in
-    record {
-      whole = movie_whole g.obus s c.deref-2.result.now c.deref-3.result.now u c.deref-3.ensures.value g.gathered;
-      bytes = small.0;
-      units = small.1;
-    }
-
 pub returns-clause-file : goal.returns-clause-file
-returns-clause-file c =
-    let v = c.args.sequence.now in
-    let g = c.in_ok-gathered.ensures in
-    let s = slices_of c.in_ok-gathered.gathered in
-    let d : joined c.deref.result.now ≡ s.descriptors = ap joined c.deref.ensures.value in
-    let u : joined c.deref-2.result.now ≡ s.units = ap joined c.deref-2.ensures.value in
-    if_ok c.write_movie.result c.write_movie.ensures.file (λ f is. record {
-      obus = g.obus;
-      bytes_are = g.are.bytes_are;
-      are = g.are.are;
-      written_is = is ∙ ap file (movie_is c.deref.result.now c.deref-2.result.now c.deref-3.result.now c.codec-codec.result.now.frame_length c.sample_rate.result c.trimmed.result c.kept.result g.obus s d u c.deref-3.ensures.value g.gathered (record {
-        frame_length = length_is v g.obus c.codec-codec.result.now g.are c.codec-codec.ensures.says;
-        sample_rate = c.sample_rate.ensures ∙ rate_is v g.obus c.codec-codec.result.now g.are c.codec-codec.ensures.says;
-        trimmed = c.trimmed.ensures ∙ trimmed_is v g.obus g.are;
-        kept_are = c.kept.ensures ∙ kept_is v g.obus g.are;
-      }));
-    })
+returns-clause-file c = if_ok c.write_movie.result c.write_movie.ensures.file (λ f is. subst (λ (b : List ℕ). IsFileOf c.args.sequence.now.bytes b) (sym is) c.movie.ensures.file)
 
 pub returns-clause-holds : goal.returns-clause-holds
 returns-clause-holds c = if_ok c.write_movie.result (returns-clause-file c) (λ f is. file_holds_body c.args.sequence.now.bytes f.items c.requires is)

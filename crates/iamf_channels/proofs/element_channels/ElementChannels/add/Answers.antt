@@ -1,9 +1,8 @@
-use Rattle.std.proofs.Common.{rules, arith, ◌≡◌, ◌<◌, ◌≤◌, ◌-◌, ◌+◌, ◌^◌, ℕ, ℤ, List, ◌++◌, take, drop, length, get_or, pos, unsigned_abs, ◌+ℤ◌, sym, ap, subst, ◌∙◌}
+use Rattle.std.proofs.Common.{rules, arith, ◌≡◌, ◌<◌, ◌≤◌, ◌-◌, ◌+◌, ◌^◌, ℤ, List, ◌++◌, take, drop, length, get_or, pos, unsigned_abs, ◌+ℤ◌, sym, ap, subst, ◌∙◌}
 use Rattle.std.specs.List.{All, flat_map}
 use Rattle.std.proofs.lemmas.List.{take_at}
 use Rattle.spec_gains.specs.Modes.{IsMode}
 use Rattle.demix_channels.specs.declared.params.DemixParams.{DemixParams}
-use Rattle.spec_descriptors.specs.AudioElement.{AudioElementFields}
 use Rattle.spec_play.specs.FixedMix.{gained}
 use Rattle.obu_descriptors.specs.ElementView.{view_element}
 use Rattle.iamf_bits.specs.Rows.{Rows}

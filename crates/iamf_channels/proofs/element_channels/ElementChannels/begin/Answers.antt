@@ -1,6 +1,5 @@
 use Rattle.std.proofs.Common.{rules, arith, ◌≡◌, ◌<◌, ℕ, ◌+◌, List, ◌++◌, take, drop, length, get_or, map, sym, ap, subst, ◌∙◌, IsTrue}
 use Rattle.spec_samples.specs.Lpcm.{is_depth}
-use Rattle.spec_descriptors.specs.AudioElement.{AudioElementFields}
 use Rattle.spec_descriptors.specs.CodecConfig.{CodecConfigFields}
 use Rattle.spec_sequence.specs.ValueRole.{role_of_codec}
 use Rattle.spec_sequence.specs.Parts.{UnitValue}

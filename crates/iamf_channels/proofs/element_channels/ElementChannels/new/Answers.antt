@@ -1,4 +1,4 @@
-use Rattle.std.proofs.Common.{rules, arith, ◌≡◌, ◌<◌, ◌≤◌, ◌-◌, ℕ, ℤ, pos, List, map, length, get_or, refl, sym, ap, subst, ◌∙◌, false}
+use Rattle.std.proofs.Common.{rules, arith, ◌≡◌, ◌<◌, ◌-◌, ℕ, List, map, length, get_or, refl, sym, ap, subst, ◌∙◌, false}
 use Rattle.std.specs.Prelude.{sum_by}
 use Rattle.std.specs.List.{All, list_any}
 use Rattle.iamf_bits.specs.Rows.{Rows}
@@ -16,12 +16,12 @@ use Rattle.spec_play.specs.UsedLayers.{used_layers}
 use Rattle.spec_play.specs.Laws.{IsHearable}
 use Rattle.spec_play.specs.Selection.{lacks_layer, is_for_other, is_output_gain_above}
 use Rattle.iamf_channels.specs.Heard.{ChannelsValue}
+use Rattle.iamf_channels.specs.Decoded.{no_rows}
+use Rattle.iamf_channels.specs.Playing.{HasRows}
 use Rattle.iamf_channels.proofs.StreamCounts.{is_known}
 use Rattle.iamf_channels.proofs.UsedKernels.{modest_layers, used_chain}
-use Rattle.iamf_channels.proofs.PlayedElements.{target_is, sound_of, codec_is}
-use Rattle.iamf_channels.proofs.FirstElement.{rendition_length, kernel_kind, kernel_made, counted, first_playing}
-use Rattle.iamf_channels.proofs.CodedRows.{sum_is}
-use Rattle.iamf_channels.specs.Parameters.{HasDemixing}
+use Rattle.iamf_channels.proofs.PlayedElements.{target_is, sound_of, few_of, codec_is}
+use Rattle.iamf_channels.proofs.FirstElement.{rendition_length, kernel_kind, kernel_made, enough_coded, first_playing}
 use Rattle.iamf_channels.proofs.element_channels.ElementChannels.new.Goals as goal
 
 pub kernel_of-kernel-requires-clause-chain : goal.kernel_of-kernel-requires-clause-chain
@@ -54,6 +54,17 @@ reserve-requires-clause-known c =
     let v : ChannelsValue = record { sequence = c.args.sequence.now; element = view_element c.args.element.now; target = c.args.target; begun = 0 } in
     is_known v.element.config (sound_of v c.requires.heard.0 c.requires.heard.1).known
 
+pub reserve-requires-clause-there : goal.reserve-requires-clause-there
+reserve-requires-clause-there c =
+    let v : ChannelsValue = record { sequence = c.args.sequence.now; element = view_element c.args.element.now; target = c.args.target; begun = 0 } in
+    omega (arith, enough_coded v c.requires.heard.0 c.requires.heard.1)
+
+pub reserve-requires-clause-few : goal.reserve-requires-clause-few
+reserve-requires-clause-few c =
+    let v : ChannelsValue = record { sequence = c.args.sequence.now; element = view_element c.args.element.now; target = c.args.target; begun = 0 } in
+    let few = few_of v c.requires.heard.0 c.requires.heard.1 in
+    omega (arith, enough_coded v c.requires.heard.0 c.requires.heard.1)
+
 pub reserve-requires-clause-length : goal.reserve-requires-clause-length
 reserve-requires-clause-length c =
     let v : ChannelsValue = record { sequence = c.args.sequence.now; element = view_element c.args.element.now; target = c.args.target; begun = 0 } in
@@ -82,10 +93,13 @@ invariant_of-result c =
     let suits = subst (λ (t : Target). is_for_other t v.element.config ≡ false) played sound.suits in
     let layers : map view_layer c.used_layers.result.now ≡ used_layers c.args.target v.element.config = c.used_layers.ensures in
     let kernel = kernel_made c.used_layers.result.now (used_layers c.args.target v.element.config) c.kernel_of-kernel.result layers c.kernel_of-kernel.ensures in
-    let known = c.in_ok-planes.ensures.channels in
-    let total : c.in-Some.count ≡ sum_by (λ (q : Rows). q.channels) planes = counted v.element.config planes c.in-Some.count known (sym c.coded_channels.ensures ∙ c.in-Some.is) in
-    let long : length c.in_ok-coded.coded.items ≡ c.in-Some.count = first_of (omega arith, search rules) in
-    let row : length c.in_ok-coded.coded.items ≡ sum_by (λ (q : Rows). q.channels) planes = long ∙ total in
+    let rows : HasRows r c.args.target v.element planes = record {
+      count = c.in_ok-planes.ensures.count;
+      channels = c.in_ok-planes.ensures.channels;
+      enough = omega (arith, c.in_ok-planes.ensures.enough, c.in_ok-planes.ensures.sum, c.needed_channels-needed.ensures);
+      lengths = λ i within. subst (λ (n : ℕ). All (λ (q : Rows). q.length ≡ n) planes) frame c.in_ok-planes.ensures.lengths i no_rows within;
+    } in
+    let long : length c.in_ok-coded.coded.items ≡ c.in_ok-planes.channels = first_of (omega arith, search rules) in
+    let row : length c.in_ok-coded.coded.items ≡ sum_by (λ (q : Rows). q.channels) planes = long ∙ c.in_ok-planes.ensures.sum in
     first_playing c.bytes.result.now v c.kernel_of-kernel.result c.first_demixing-demixing.result planes c.in_ok-coded.coded.items r reads heard refl (kernel_kind c.args.target v.element.config c.kernel_of-kernel.result there suits sound.known kernel)
-    (c.first_demixing-demixing.ensures.has r played sound.reserved) c.first_demixing-demixing.ensures.sound c.in_ok-planes.ensures.count known
-    (subst (λ (n : ℕ). All (λ (q : Rows). q.length ≡ n) planes) frame c.in_ok-planes.ensures.lengths) row
+    (c.first_demixing-demixing.ensures.has r played sound.reserved) c.first_demixing-demixing.ensures.sound rows row

@@ -22,8 +22,10 @@ loop-i-preserved c =
 pub invariant_of-result : goal.invariant_of-result
 invariant_of-result c =
     let e : c.loop-i.i ≡ c.args.target + 1 = omega arith in
-    let k = rw e at c.loop-i.invariant.kept in
-    rw k (kernel_is c.args.layers.now c.args.target c.origins_of-origins.result c.requires.target c.requires.chain c.requires.gains (rw k at c.origins_of-origins.ensures))
+    let k = rw e at c.loop-i.invariant.kept in (
+      rw k (kernel_is c.args.layers.now c.args.target c.origins_of-origins.result c.requires.target c.requires.chain c.requires.gains (rw k at c.origins_of-origins.ensures)),
+      record { scaled_is = c.scaled_bed-scaled.ensures; most_is = c.most_of.ensures },
+    )
 
 pub returns-clause-channels : goal.returns-clause-channels
 returns-clause-channels c =

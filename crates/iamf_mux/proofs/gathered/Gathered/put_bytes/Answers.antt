@@ -1,0 +1,15 @@
+use Rattle.std.proofs.Common.{sym}
+use Rattle.mp4_file.specs.Slices.{joined}
+use Rattle.iamf_mux.specs.Gathering.{slices_of}
+use Rattle.iamf_mux.proofs.Runs.{goes_on, begins}
+use Rattle.iamf_mux.proofs.gathered.Gathered.put_bytes.Goals as goal
+
+pub returns-then-at-self-clause-put : goal.returns-then-at-self-clause-put
+returns-then-at-self-clause-put c =
+    let g = c.args.self.now in
+    goes_on (joined g.descriptors.items) g.unit_lengths.items (joined g.units.items) g.bytes.now g.start g.end c.args.at c.args.end c.if-at-self.true g.within.0 c.requires.onward
+
+pub returns-clause-put : goal.returns-clause-put
+returns-clause-put c =
+    let g = c.close.new.self in
+    begins (slices_of c.args.self.now) (joined g.descriptors.items) g.unit_lengths.items (joined g.units.items) g.bytes.now c.args.self.now.bytes.now g.start g.end c.args.at c.args.end c.in_ok-close.ensures.kept c.in_ok-close.ensures.closed c.close.ensures.same

@@ -3,7 +3,8 @@
 
 Usage: bench/mux.py [--quick]
 The stream is LPCM of 7.1.4 in three layers, 24 bits and 1024 samples a frame, 500 MB; the file is that which `mux` writes of it.
-Both programs read from the disk's cache and write a file. What `demux` writes has to have the report of the stream, and `mux`
+Both programs read from the disk's cache and write a file. Beside them stands what it takes to copy the same bytes by `cat`, and to
+hold them whole before they are written (hold.c). What `demux` writes has to have the report of the stream, and `mux`
 has to write the same file of it. The program is $IAMF_TOOL, or the proved one that the launcher built; instructions are
 counted by valgrind on 20 MB. --quick takes smaller streams. It ends with 1 where a run fails or its answer is wrong, and with
 0 else, whatever was measured.
@@ -13,20 +14,24 @@ import os
 import shutil
 
 import streams
-from run import (MB, MIB, NO_RUN, PROGRAM, Fails, better, count_with_callgrind, ffmpeg, figure, heads_of_figures, ratios, run_once,
-                 run_script)
+from run import (MB, MIB, NO_RUN, PROGRAM, Fails, better, compiled, count_with_callgrind, ffmpeg, figure, heads_of_figures, ratios, row,
+                 run_once, run_script)
 from sequences import last_lines, same_files
 
-RUNS = 3
+RUNS = 5
 TIME_LIMIT = 0.33
 INSTRUCTIONS_LIMIT = 2.2
 ABOVE = 4
 
 
-def write(command, source, path):
-    """Runs the program into a file, and answers what it took."""
+def write_by(command, source, path):
+    """Runs a command into a file, and answers what it took."""
     with open(path, "wb") as out:
-        return run_once([PROGRAM, command], source, out)
+        return run_once(command, source, out)
+
+
+def write(command, source, path):
+    return write_by([PROGRAM, command], source, path)
 
 
 def expect_both_ways(folder, stream_of, stream, file):
@@ -53,19 +58,23 @@ def copy_command(program, source, path, kind):
             "-stream_group", "map=0=1:stg=0", "-f", kind, path]
 
 
-def measure(folder, command, source, copy):
-    """The best runs of the program and of ffmpeg, in turns, and how long the program's output is."""
+def measure(folder, command, source, floors, copy):
+    """The best runs of the program, of the commands that only copy, and of ffmpeg, in turns, and how long the program's output is."""
     out = os.path.join(folder, "written")
-    ours = theirs = NO_RUN
+    ours, *least = [NO_RUN] * (1 + len(floors))
+    theirs = NO_RUN
     for _ in range(RUNS):
         ours = better(ours, write(command, source, out))
         length = os.path.getsize(out)
         os.remove(out)
+        for i, floor in enumerate(floors):
+            least[i] = better(least[i], write_by(floor, source, out))
+            os.remove(out)
         if copy:
             with open(os.devnull, "wb") as nowhere:
                 theirs = better(theirs, run_once(copy, os.devnull, nowhere))
             os.remove(copy[-1])
-    return ours, theirs, length
+    return ours, least, theirs, length
 
 
 def report_instructions(folder, size):
@@ -84,12 +93,15 @@ def report(folder, quick):
     stream = streams.layered(path, size * MB)
     expect_both_ways(folder, path, stream, file)
     program = ffmpeg()
+    floors = [["cat"], compiled(folder, "hold", "hold.c")]
     heads_of_figures()
     for command, source, kind in (("mux", path, "mp4"), ("demux", file, "iamf")):
         copy = copy_command(program, source, os.path.join(folder, f"copied.{kind}"), kind) if program else None
-        ours, theirs, written = measure(folder, command, source, copy)
+        ours, least, theirs, written = measure(folder, command, source, floors, copy)
         if program:
             ratios(f"{command} of {size} MB / ffmpeg -c copy", ours, theirs, TIME_LIMIT)
+        for name, run in zip(("cat", "a C program that holds it whole"), least):
+            row(f"the input of {command} written by {name}", f"{run.seconds:.3f} s, CPU {run.cpu:.3f} s", "", "")
         above, limit = (ours.peak - os.path.getsize(source)) / MIB, written / MIB + ABOVE
         figure(f"{command}: peak memory above the input", f"{above:.1f} MiB", f"the output and {ABOVE}: {limit:.1f}", above <= limit)
     if shutil.which("valgrind"):

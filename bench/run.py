@@ -19,6 +19,9 @@ HERE = os.path.dirname(os.path.abspath(__file__))
 TOP = os.path.dirname(HERE)
 PROGRAM = os.environ.get("IAMF_TOOL", os.path.join(TOP, "crates/iamf_tool/out/iamf_tool"))
 
+# As the launcher has it: with large pages for all commands but `check`. What they are compared with runs with large pages too.
+LARGE_PAGES = {"GLIBC_TUNABLES": "glibc.malloc.hugetlb=1"}
+
 MB = 1_000_000
 MIB = 1 << 20
 RUNS = 5
@@ -44,18 +47,28 @@ def make_stream(path, obu, size):
     return path
 
 
-def compile_loop(folder, name, *flags):
+def compiled(folder, name, source, *flags):
+    """The command of a C program of this folder."""
     path = os.path.join(folder, name)
-    source = os.path.join(HERE, "list.c")
-    subprocess.run(["cc", "-O2", *flags, "-o", path, source], check=True)
+    subprocess.run(["cc", "-O2", *flags, "-o", path, os.path.join(HERE, source)], check=True)
     return [path]
+
+
+def compile_loop(folder, name, *flags):
+    return compiled(folder, name, "list.c", *flags)
+
+
+def environment(command):
+    """The variables that a command runs with; those that are set already stay."""
+    return dict(os.environ) if command[-1] == "check" else {**LARGE_PAGES, **os.environ}
 
 
 def run_once(command, stream, out):
     """Runs a command on a stream, and answers what the run took."""
+    variables = environment(command)
     with open(stream, "rb") as source:
         begun = time.perf_counter()
-        child = subprocess.Popen(command, stdin=source, stdout=out)
+        child = subprocess.Popen(command, stdin=source, stdout=out, env=variables)
         _, status, usage = os.wait4(child.pid, 0)
         seconds = time.perf_counter() - begun
     child.returncode = os.waitstatus_to_exitcode(status)

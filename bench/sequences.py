@@ -4,7 +4,8 @@
 Usage: bench/sequences.py [--quick]
 The stream is LPCM of 7.1.4 in three layers, 24 bits and 1024 samples a frame, 500 MB. All three commands read the same file
 and take turns. `check` is measured too against `ffmpeg`, which copies the packets of the same stream to nowhere. The program is
-$IAMF_TOOL, or the proved one that the launcher built. --quick takes a smaller stream.
+$IAMF_TOOL, or the proved one that the launcher built; each command is measured against $IAMF_EARLIER, an earlier program, where
+that is set. --quick takes a smaller stream.
 It ends with 1 where a run fails or its answer is wrong, and with 0 else, whatever was measured.
 """
 
@@ -17,6 +18,7 @@ CHECK_LIMIT = 1.5
 CANON_LIMIT = 1.8
 # How many times as fast as ffmpeg `check` has to be.
 FFMPEG_LIMIT = 4
+EARLIER = os.environ.get("IAMF_EARLIER")
 
 
 def last_lines(path):
@@ -52,17 +54,27 @@ def expect_accepted(folder, path, stream):
 
 
 def report_ffmpeg(path, size):
-    """The time that `ffmpeg` takes to part the stream into packets, over that of `check`."""
+    """The time that `ffmpeg` takes to part the stream into packets, over that of `check`, and over a mere read in the same pieces."""
     program = ffmpeg()
     if not program:
         return
     copy = [program, "-nostdin", "-v", "error", "-f", "iamf", "-i", "-", "-c", "copy", "-f", "null", "-"]
-    checking, copying = best_of([[PROGRAM, "check"], copy], path)
+    read = ["dd", "bs=65536", f"of={os.devnull}", "status=none"]
+    checking, copying, reading = best_of([[PROGRAM, "check"], copy, read], path)
     print()
     heads_of_figures()
     for name, one, two in (("by the clock", checking.seconds, copying.seconds), ("CPU time", checking.cpu, copying.cpu)):
         figure(f"check of {size} MB over ffmpeg -c copy, throughput, {name}", f"{two:.3f} s / {one:.3f} s = {two / one:.2f}",
                f"at least {FFMPEG_LIMIT}", two / one >= FFMPEG_LIMIT)
+    row(f"a read of the {size} MB alone, by dd, over ffmpeg -c copy", f"{copying.seconds:.3f} s / {reading.seconds:.3f} s = "
+        f"{copying.seconds / reading.seconds:.2f}", "", "")
+
+
+def report_earlier(path, size):
+    """The times of the commands, over those of an earlier program."""
+    for command in ("list", "check", "canon"):
+        now, earlier = best_of([[PROGRAM, command], [EARLIER, command]], path)
+        ratios(f"{command} / {command} of the earlier program, {size} MB", now, earlier, 1)
 
 
 def report(folder, quick):
@@ -77,6 +89,8 @@ def report(folder, quick):
     ratios(f"canon / list, {size} MB of 7.1.4, {stream.obus} OBUs", writing, listing, CANON_LIMIT)
     row("check: peak memory", f"{checking.peak / MIB:.1f} MiB", "", "")
     row("canon: peak memory above input and output", f"{(writing.peak - 2 * length) / MIB:.1f} MiB", "", "")
+    if EARLIER:
+        report_earlier(path, size)
     report_ffmpeg(path, size)
 
 

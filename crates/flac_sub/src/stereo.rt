@@ -18,7 +18,7 @@ fn above(side: i64) -> i64
     ensures is { result ≡ int_div_euclid (side +ℤ pos 1) (pos 2) }
     ensures small { unsigned_abs result ≤ 2 ^ 32 }
 {
-    (side + 1).div_euclid(2)
+    (side + 1) >> 1
 }
 
 #[inline(always)]

@@ -1,9 +1,9 @@
 -- The parameters of a valid element: their blocks last a frame, and recon gains have layers.
-use Rattle.std.proofs.Common.{◌≡◌, ◌==◌, ℕ, zero, suc, ◌<◌, ◌≤◌, false, List, [], ◌∷◌, ◌++◌, length, get_or, map, sym, subst, ◌∙◌, arith}
+use Rattle.std.proofs.Common.{◌≡◌, ◌==◌, ℕ, zero, suc, ◌<◌, ◌≤◌, false, List, [], ◌∷◌, length, get_or, map, sym, subst, ◌∙◌, arith}
 use Rattle.std.specs.Prelude.{Option, Some, None}
 use Rattle.std.specs.List.{All}
 use Rattle.std.proofs.lemmas.Bool.{or_parts, eqb-true, eqb-false, not-false}
-use Rattle.spec_syntax.specs.Syntax.{Syntax, each}
+use Rattle.spec_syntax.specs.Syntax.{each}
 use Rattle.spec_syntax.specs.Payload.{FieldValue, IsValid, canon}
 use Rattle.spec_syntax.proofs.Fields.{Has, field_step, end_step, choice_step, check_step, bind_step, each_is}
 use Rattle.spec_descriptors.specs.ParameterDefinition.{FixedFields, DefinitionFields, any_duration, frame_timing, frame_definition}
@@ -11,7 +11,8 @@ use Rattle.spec_descriptors.specs.Layers.{LayerFields, layer_in, scalable_config
 use Rattle.spec_descriptors.specs.AudioElement.{ParameterFields, Demixing, ReconGain, Extension, ConfigFields, AudioElementFields, is_refused_kind, demixing_definition, recon_gain_definition, extension_definition, parameter_in, scalable_of, config_of, element_front, audio_element}
 use Rattle.spec_descriptors.specs.ElementFields.{layer_fields, audio_element_fields}
 use Rattle.spec_descriptors.proofs.LayersIs.{layer_is}
-use Rattle.spec_descriptors.proofs.ElementCounts.{Each}
+use Rattle.spec_descriptors.proofs.OnEach.{Each}
+use Rattle.spec_descriptors.proofs.ElementCounts.{each_all}
 use Rattle.spec_sequence.specs.ValueRole.{layers_of}
 use Rattle.obu_descriptors.specs.declared.audio_element.AudioElement.{AudioElement}
 use Rattle.obu_descriptors.specs.ParameterView.{view_param}
@@ -21,17 +22,6 @@ use Rattle.obu_data.specs.ShapeView.{LastsAFrame}
 use Rattle.iamf_admission.specs.Defining.{CanDefine}
 
 -- ---- each of a list
-
-Each-push : {B : Type 0} (P : B → Type 0) (bs : List B) (b : B) → Each P bs → P b → Each P (bs ++ b ∷ [])
-Each-push P [] b all one = (one, tt)
-Each-push P (c ∷ bs) b all one = (all.0, Each-push P bs b all.1 one)
-
-each_holds : {F B : Type 0} (part : ℕ → List B → Syntax F B) (P : B → Type 0) → ((m : ℕ) (bs : List B) (ys : List FieldValue) (b : B) → Has (part m bs) ys b → P b)
-    → (n : ℕ) (before : List B) (xs : List FieldValue) (r : List B) → Each P before → Has (each n part before) xs r → Each P r
-unfolding each
-each_holds {B = B} part P holds zero before xs r all h = end_step h λ e is. subst (λ (y : List B). Each P y) is all
-each_holds part P holds (suc n) before xs r all h =
-    bind_step (part n before) _ h λ front others b e first rest. each_holds part P holds n (before ++ b ∷ []) others r (Each-push P before b all (holds n before front b first)) rest
 
 each_mapped : {X Y : Type 0} (P : Y → Type 0) (f : X → Y) (xs : List X) → Each P (map f xs) → (k : ℕ) (d : X) → k < length xs → P (f (get_or xs k d))
 each_mapped P f [] all k d lt = absurd (omega arith)
@@ -170,7 +160,7 @@ element_defines n xs r h =
     end_step h4 λ e4 is.
     let type = front.audio_element_type in
     let few : type ≡ 0 → HasLayers (layers_of config) = λ scalable. config_layers type (length front.audio_substream_ids) config_xs config scalable third in
-    let all = each_holds (parameter_in n type) (IsDefined n type) (parameter_defined n type) count [] parameters_xs parameters tt second in
+    let all = (each_all (parameter_in n type) (IsDefined n type) (parameter_defined n type) count [] parameters_xs parameters tt second).0 in
     subst (λ (y : AudioElementFields). Defines n y) is (record { type = type; layers = few; all = all })
 
 valid_defines : (n : ℕ) (r : AudioElementFields) → IsValid (audio_element n) audio_element_fields r → Defines n r

@@ -2,7 +2,6 @@ pub mod Defining
 pub mod Definable
 pub mod Channels
 pub mod ChannelCounts
-pub mod CodecLengths
 pub mod CodecDepths
 pub mod MixIds
 pub mod ContentRoles

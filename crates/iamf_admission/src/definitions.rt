@@ -59,8 +59,8 @@ fn add_demixing(
     ensures { OnOk result ((layers : List LayerFields) (mode weight : ℕ)
         → Defines definitions.old.items definitions.new.items (element_definition layers (Demixing (view_timing timing.now) mode weight))) }
 {
-    let copy = timing.try_clone(alloc)?;
-    add(definitions, timing.id, Shape::Demix(copy))?;
+    let cadence = timing.cadence(alloc)?;
+    add(definitions, timing.id, Shape::Demix(cadence))?;
     Ok(())
 }
 
@@ -75,10 +75,10 @@ fn add_recon(
     requires few { length layers.now ≤ 6 }
     ensures { OnOk result (Defines definitions.old.items definitions.new.items (element_definition (map view_layer layers.now) (ReconGain (view_timing timing.now)))) }
 {
-    let copy = timing.try_clone(alloc)?;
+    let cadence = timing.cadence(alloc)?;
     let flags = recon_flags(layers);
     let count = layers.len() as u8;
-    add(definitions, timing.id, Shape::Recon(copy, count, flags))?;
+    add(definitions, timing.id, Shape::Recon(cadence, count, flags))?;
     Ok(())
 }
 
@@ -150,8 +150,8 @@ fn add_gain(
 ) -> Result<(), AllocError>
     ensures { OnOk result (Defines definitions.old.items definitions.new.items (gain_definition (view_mix_gain gain.now) ∷ [])) }
 {
-    let copy = gain.timing.try_clone(alloc)?;
-    add(definitions, gain.timing.id, Shape::Gain(copy))?;
+    let cadence = gain.timing.cadence(alloc)?;
+    add(definitions, gain.timing.id, Shape::Gain(cadence))?;
     Ok(())
 }
 

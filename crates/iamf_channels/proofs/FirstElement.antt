@@ -9,11 +9,10 @@ use Rattle.obu_descriptors.specs.LayerView.{view_layer}
 use Rattle.std.proofs.lemmas.Option.{get_or_from_slice_get}
 use Rattle.spec_samples.specs.Lpcm.{is_depth}
 use Rattle.spec_layouts.specs.declared.Layout.{Layout}
-use Rattle.spec_descriptors.specs.CodecConfig.{CodingFields, Lpcm, Flac, CodecConfigFields}
 use Rattle.spec_descriptors.specs.Layers.{LayerFields}
 use Rattle.spec_descriptors.specs.AudioElement.{ConfigFields, Scalable, Ambisonics, Other, substream_channels_of, coded_channels_of}
 use Rattle.spec_rules.specs.Descriptors.{pairs_in}
-use Rattle.spec_sequence.specs.ValueRole.{codec_role}
+use Rattle.spec_sequence.proofs.RoleNumbers.{role_depth}
 use Rattle.spec_demix.specs.declared.DemixLayer.{DemixLayer}
 use Rattle.spec_demix.specs.Elements.{demix_layers_of}
 use Rattle.spec_sequence.specs.Reading.{Reads, values_of}
@@ -23,10 +22,8 @@ use Rattle.spec_play.specs.Mixes.{MixedElement, Rendition, codec_of, unit_length
 use Rattle.spec_play.specs.UsedLayers.{is_of, layers_up_to, used_layers}
 use Rattle.spec_play.specs.Selection.{lacks_layer, is_for_other, is_unknown}
 use Rattle.spec_play.specs.Laws.{HasFrame, HasFramesOf}
-use Rattle.spec_play.proofs.Tests.{Each}
 use Rattle.spec_play.proofs.ChainsUpTo.{is_its}
-use Rattle.spec_play.proofs.CodecDepths.{HasDepth, sequence_depths}
-use Rattle.spec_play.proofs.WholeFrames.{frames_whole, one_config}
+use Rattle.spec_play.proofs.WholeFrames.{frames_whole, rendition_numbers}
 use Rattle.iamf_bits.specs.Rows.{Rows}
 use Rattle.iamf_channels.specs.declared.parameters.Demixing.{Demixing}
 use Rattle.iamf_channels.specs.Heard.{ChannelsValue, Hears}
@@ -37,22 +34,13 @@ use Rattle.iamf_channels.proofs.CodedRows.{frame_at}
 use Rattle.iamf_channels.proofs.LayerCounts.{layers_suffice}
 use Rattle.iamf_channels.proofs.StreamCounts.{known_list, is_known}
 use Rattle.iamf_channels.proofs.PlayedElements.{target_is, sound_of}
-use Rattle.iamf_channels.proofs.FrameLengths.{sequence_lengths}
-
-deep : (id n : ℕ) (k : CodingFields) → HasDepth k → IsTrue (is_depth (codec_role id n k).depth)
-deep id n (Lpcm little depth rate) h = h
-deep id n (Flac info others) h = h
 
 pub rendition_depth : (bytes : List ℕ) (v : ChannelsValue) (r : Rendition) → Reads bytes (values_of v.sequence.entries) → Hears v r → IsTrue (is_depth (codec_of r).depth)
 rendition_depth bytes v r reads h =
-    let one = one_config bytes (values_of v.sequence.entries) h.mix v.target r reads h.heard_is in
-    let all = subst (λ (cs : List CodecConfigFields). Each (λ c. HasDepth c.coding) cs) one (sequence_depths bytes (values_of v.sequence.entries) reads) in
-    deep r.codec.codec_config_id r.codec.num_samples_per_frame r.codec.coding all.0
+    role_depth r.codec.codec_config_id r.codec.num_samples_per_frame r.codec.coding (rendition_numbers bytes (values_of v.sequence.entries) h.mix v.target r reads h.heard_is).depth
 
 pub rendition_length : (bytes : List ℕ) (v : ChannelsValue) (r : Rendition) → Reads bytes (values_of v.sequence.entries) → Hears v r → unit_length r ≤ 65535
-rendition_length bytes v r reads h =
-    let one = one_config bytes (values_of v.sequence.entries) h.mix v.target r reads h.heard_is in
-    (subst (λ (cs : List CodecConfigFields). Each (λ c. c.num_samples_per_frame ≤ 65535) cs) one (sequence_lengths bytes (values_of v.sequence.entries) reads)).0
+rendition_length bytes v r reads h = (rendition_numbers bytes (values_of v.sequence.entries) h.mix v.target r reads h.heard_is).length
 
 slice_below : {A : Type 0} (xs : List A) (i : ℕ) (x : A) → slice_get xs i ≡ Some x → i < length xs
 slice_below [] i x e = absurd (cc)

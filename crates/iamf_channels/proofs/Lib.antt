@@ -3,7 +3,6 @@ mod CodedFrames
 mod CodedRows
 mod FirstElement
 mod FlacSizes
-mod FrameLengths
 mod FrontChannels
 mod FrameRows
 mod HeardRenditions

@@ -1,10 +1,11 @@
 //! One element of a sequence as it is played.
 
-ghost use Rattle.std.specs.Prelude.{◌≡◌, ℕ, ◌+◌, ◌-◌, ◌^◌, ◌<◌, ◌≤◌, All, pos, ◌+ℤ◌, unsigned_abs, length, slice_index_or, IfOk};
+ghost use Rattle.std.specs.Prelude.{◌≡◌, ℕ, ◌+◌, ◌-◌, ◌^◌, ◌<◌, ◌≤◌, All, false, pos, ◌+ℤ◌, unsigned_abs, length, slice_index_or, IfOk};
 ghost use Rattle.spec_play.specs.Mixes.{Rendition, unit_length};
 ghost use Rattle.spec_play.specs.Waves.{wave_shape};
 ghost use Rattle.spec_play.specs.FixedMix.{gained, fixed_channel};
 ghost use Rattle.obu_descriptors.specs.ElementView.{view_element};
+ghost use Rattle.iamf_mixing.specs.Sums.{base};
 ghost use Rattle.iamf_channels.specs.Heard.{IsHeard, Hears, units_in};
 
 use crate::adding::add_tick;
@@ -110,14 +111,15 @@ impl<'s, 'a> ElementChannels<'s, 'a> {
     }
 
     /// Adds the channels at tick `n` of the unit begun last, each times a gain in parts of 10^12, to the sums in the same
-    /// places, in units of 1/2^28. There is a sum for each channel of the target, and each changes by at most 2^73.
-    pub fn add(&mut self, n: usize, gain: u64, sums: &mut [i128])
+    /// places, or to 0 where the sums are `fresh`, in units of 1/2^28. There is a sum for each channel of the target, and each
+    /// changes by at most 2^73.
+    pub fn add(&mut self, n: usize, gain: u64, fresh: bool, sums: &mut [i128])
         requires begun { 1 ≤ self.old.begun }
         requires place { (r : Rendition) × Hears self.old r × (n < unit_length r) × (length sums.old ≡ (wave_shape r).channels) }
         requires gain { gain ≤ 39810717055340 }
-        requires sums { All (λ z. unsigned_abs z < 2 ^ 100) sums.old }
-        ensures value { (r : Rendition) → Hears self.old r → (c : ℕ) → c < length sums.old → slice_index_or sums.new c (pos 0) ≡ slice_index_or sums.old c (pos 0) +ℤ gained (fixed_channel r (record { unit = self.old.begun - 1; sample = n; channel = c }) self.old.element) gain }
-        ensures growth { (c : ℕ) → c < length sums.old → unsigned_abs (slice_index_or sums.new c (pos 0)) ≤ unsigned_abs (slice_index_or sums.old c (pos 0)) + 2 ^ 73 }
+        requires sums { fresh ≡ false → All (λ z. unsigned_abs z < 2 ^ 100) sums.old }
+        ensures value { (r : Rendition) → Hears self.old r → (c : ℕ) → c < length sums.old → slice_index_or sums.new c (pos 0) ≡ base fresh (slice_index_or sums.old c (pos 0)) +ℤ gained (fixed_channel r (record { unit = self.old.begun - 1; sample = n; channel = c }) self.old.element) gain }
+        ensures growth { (c : ℕ) → c < length sums.old → unsigned_abs (slice_index_or sums.new c (pos 0)) ≤ unsigned_abs (base fresh (slice_index_or sums.old c (pos 0))) + 2 ^ 73 }
         ensures same { self.new ≡ self.old }
     {
         coded_row(self.planes.as_slice(), n, self.coded.as_mut_slice());
@@ -127,6 +129,7 @@ impl<'s, 'a> ElementChannels<'s, 'a> {
             &self.element.config,
             self.coded.as_slice(),
             gain,
+            fresh,
             sums,
         );
     }

@@ -6,8 +6,6 @@ mod blocks;
 mod demixing;
 mod elements;
 mod layers;
-#[cfg(test)]
-mod tests;
 mod units;
 
 pub use blocks::{block_mode, goes_above, has_bezier, is_block_of, parts_of};

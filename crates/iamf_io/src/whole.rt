@@ -1,6 +1,6 @@
 //! Reading a source to its end and writing a whole buffer.
-ghost use Rattle.std.specs.Prelude.{◌≡◌, ◌+◌, ◌<◌, ◌≤◌, ◌^◌, IfOk, IsOk, OnOk, OnErr, IsErrOf};
-ghost use Rattle.std.specs.Io.KnownBytes.{Appends};
+ghost use Rattle.std.specs.Prelude.{◌≡◌, ◌+◌, ◌<◌, ◌≤◌, ◌^◌, IfOk, IsOk, OnOk, OnErr, IsErrOf, length, take, drop, vec_len};
+ghost use Rattle.std.specs.Io.KnownBytes.{Appends, Consumes, IsAtEnd, Keeps};
 ghost use Rattle.iamf_io.specs.Causes.{HasCause, Rose};
 ghost use Rattle.iamf_io.specs.Whole.{AppendsFront, TakesAll, TakesAtMost, TakesCount, TellsWithin, TellsMore, IsOkOrMemory, IsTooLargeOrMemory, ReadCause};
 
@@ -23,7 +23,33 @@ pub enum ReadError {
 }
 
 // How many bytes one read asks for at most.
-const CHUNK: usize = 65536;
+const PIECE: usize = 65536;
+
+// How many bytes one write passes on at most: systems are slow to take very many at once.
+const WRITTEN_AT_ONCE: usize = 262144;
+
+// Makes so many bytes of all, of which the first `read` stay.
+fn make_room(all: &mut Vec<u8>, read: usize, end: usize) -> Result<(), AllocError>
+    requires { (read ≤ vec_len all.old) × (read ≤ end) }
+    ensures room { OnOk result (vec_len all.new ≡ end) }
+    ensures kept { OnOk result (take read all.new.items ≡ take read all.old.items) }
+{
+    all.resize(end, 0)
+}
+
+// Reads once, over what stands after the first `read` bytes.
+fn read_after<S: Source>(source: &mut S, all: &mut Vec<u8>, read: usize) -> Result<usize, Failed>
+    requires { read < vec_len all.old }
+    ensures len { vec_len all.new ≡ vec_len all.old }
+    ensures kept { take read all.new.items ≡ take read all.old.items }
+    ensures within { IfOk result (λ n. read + n ≤ length all.new.items) }
+    ensures bytes { IfOk result (λ n. Consumes (S.left source.old) (S.left source.new) (take n (drop read all.new.items))) }
+    ensures end { IfOk result (λ n. n ≡ 0 → IsAtEnd (S.left source.new)) }
+    ensures none { OnErr result (Keeps (S.left source.old) (S.left source.new)) }
+    ensures cause { HasCause (S.faults source.old) (S.faults source.new) result }
+{
+    source.read(&mut all[read..])
+}
 
 /// Reads the source to its end and gives all its bytes, of which there are at most `limit`, below 2^62. The
 /// source's count of faults stays as it was.
@@ -51,22 +77,24 @@ pub fn read_all<S: Source>(alloc: Global, source: &mut S, limit: u64) -> Result<
         → TellsMore (S.left source.old) limit → IsTooLargeOrMemory result }
 {
     let mut all: Vec<u8> = Vec::new(alloc);
-    let mut chunk = [0u8; CHUNK];
+    let mut read = 0usize;
     // Each read gives a byte, the end or a fault, so there are at most `limit + 2` of them.
     'reading: loop {
-        let room = limit + 1 - all.len() as u64;
-        let most = room.min(CHUNK as u64) as usize;
-        let count = match source.read(&mut chunk[..most]) {
+        let room = limit + 1 - read as u64;
+        let most = room.min(PIECE as u64) as usize;
+        if let Err(e) = make_room(&mut all, read, read + most) {
+            return Err(ReadError::Memory(e));
+        }
+        let count = match read_after(source, &mut all, read) {
             Ok(count) => count,
             Err(Failed) => return Err(ReadError::Failed),
         };
         if count == 0 {
+            all.truncate(read);
             return Ok(all);
         }
-        if let Err(e) = all.extend_from_slice(&chunk[..count]) {
-            return Err(ReadError::Memory(e));
-        }
-        if all.len() as u64 > limit {
+        read += count;
+        if read as u64 > limit {
             return Err(ReadError::TooLarge);
         }
     }
@@ -85,7 +113,8 @@ pub fn write_all<W: Sink>(sink: &mut W, bytes: &[u8]) -> Result<(), Failed>
 {
     let mut at = 0usize;
     while at < bytes.len() {
-        at += sink.write(&bytes[at..])?;
+        let end = bytes.len().min(at + WRITTEN_AT_ONCE);
+        at += sink.write(&bytes[at..end])?;
     }
     Ok(())
 }

@@ -3,3 +3,4 @@ pub mod Bytes
 pub mod Ticks
 pub mod Tracks
 pub mod Scenes
+pub mod Sums

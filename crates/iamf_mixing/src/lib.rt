@@ -10,8 +10,6 @@ mod gains;
 mod output;
 mod scenes;
 mod sums;
-#[cfg(test)]
-mod tests;
 mod track;
 
 pub use blocks::gain_block;

@@ -2,6 +2,6 @@ pub mod Gathers
 pub mod ObuBytes
 pub mod OneObu
 pub mod Runs
-pub mod Fed
+pub mod FedTracks
 pub mod Movies
 pub mod BareSize

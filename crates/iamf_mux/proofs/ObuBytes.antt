@@ -1,20 +1,17 @@
 -- The bytes of an OBU of a sequence, where its view stands.
-use Rattle.std.proofs.Common.{◌≡◌, ◌⊎◌, inl, inr, ℕ, zero, suc, ◌+◌, ◌-◌, ◌≤◌, ◌<◌, min, Bool, true, false, cond, List, [], ◌∷◌, ◌++◌, length, take, drop, map, refl, sym, ap, ap₂, subst, ◌∙◌, append_assoc, append-nil, length-append, arith}
-use Rattle.std.specs.Prelude.{Option, Some, None, slice_get, slice_range, if◌then◌else◌}
+use Rattle.std.proofs.Common.{◌≡◌, ℕ, zero, suc, ◌+◌, ◌-◌, ◌≤◌, ◌<◌, List, [], ◌∷◌, ◌++◌, length, take, drop, refl, sym, ap, ap₂, subst, ◌∙◌, append_assoc, append-nil, length-append, arith}
+use Rattle.std.specs.Prelude.{Some, None, slice_get, slice_range, if◌then◌else◌}
 use Rattle.std.specs.Option.{option_map}
-use Rattle.std.proofs.lemmas.List.{map-append, take-append-drop, take-map, take_all, length-take, length-drop, length-map}
+use Rattle.std.proofs.lemmas.List.{take-append-drop, take-map, length-take}
 use Rattle.std.proofs.lemmas.Option.{slice_get-map}
 use Rattle.std.proofs.Math.Seq.{drop-append_seam}
-use Rattle.spec_obu.specs.Header.{Head, Header}
 use Rattle.spec_obu.proofs.OneHeader.{Same, same_front}
 use Rattle.spec_values.specs.Value.{Spells}
-use Rattle.spec_values.proofs.Obus.{not_empty}
 use Rattle.spec_rules.specs.Role.{Role}
 use Rattle.spec_rules.specs.Units.{is_data, unit_after, unit_at, unit_of}
-use Rattle.spec_sequence.specs.Reading.{Entry, roles, context_after, IsAdmissible, Admitted}
+use Rattle.spec_sequence.specs.Reading.{Entry, roles, context_after, IsAdmissible}
 use Rattle.spec_sequence.specs.Reading as reading
-use Rattle.spec_bodies.specs.Spelled.{Spelled, entry_of, role_of, entries_of, roles_of, bytes_of, AdmittedAfter, AreSequence}
-use Rattle.spec_bodies.proofs.OneMore.{bytes-push}
+use Rattle.spec_bodies.specs.Spelled.{Spelled, entry_of, role_of, entries_of, roles_of, bytes_of, AdmittedAfter}
 use Rattle.spec_bodies.proofs.SpelledRoles.{roles_are}
 use Rattle.obu_header.specs.declared.view.ObuView.{ObuView}
 use Rattle.obu_header.specs.View.{head_of}
@@ -83,28 +80,11 @@ front_same p q b more c (y ∷ ys) past (x ∷ xs) h g is e =
     let rest : entries_of xs ≡ ys = cc in
     h.2 ∙ ap₂ (λ (u v : List ℕ). u ++ v) s.bytes (front_same (p ++ y ∷ []) q h.1 more c ys (past ++ x ∷ []) xs h.5 g.2 rest s.after)
 
-order : (a b : ℕ) → (a < b) ⊎ (b ≤ a)
-order a b = grind arith
-
-nothing_taken : (n i : ℕ) (b : List ℕ) → length b ≤ i → take n (drop i b) ≡ []
-nothing_taken n i b past = none (take n (drop i b)) (omega (arith, length-take n (drop i b), length-drop i b)) where
-  none : (xs : List ℕ) → length xs ≡ 0 → xs ≡ []
-  none [] e = refl
-  none (x ∷ xs) e = absurd (omega arith)
-
--- no more is taken than there is
-cut_short : (n m : ℕ) (b : List ℕ) → m ≡ min n (length b) → take m b ≡ take n b
-cut_short n m b is = elim (order n (length b)) [
-  | inl less ↦ ap (λ (k : ℕ). take k b) (omega (arith, is, less))
-  | inr more ↦ ap (λ (k : ℕ). take k b) (omega (arith, is, more)) ∙ take_all (length b) b (omega arith) ∙ sym (take_all n b more)
-]
-
 pub record StandsAt (v : SequenceValue) (os : List Spelled) (i : ℕ) (view : ObuView) : Type 0 where
   pub splits : Splits os i
   pub admits : Admits (take i os) splits.o
   pub head : head_of view.head ≡ splits.o.value.head
-  pub bytes : slice_range v.bytes view.at (min view.end (length v.bytes)) ≡ splits.o.bytes
-  pub onward : view.at ≤ min view.end (length v.bytes)
+  pub bytes : slice_range v.bytes view.at view.end ≡ splits.o.bytes
   pub number : unit_of (roles v.entries) i ≡ number (take i os) splits.o
   pub room : length (bytes_of (take i os)) + length splits.o.bytes ≤ length v.bytes
 
@@ -123,8 +103,7 @@ stands_at v os i view are less is = record {
   splits = s;
   admits = admits os i s are.are.admitted;
   head = is.head ∙ ap (λ (e : Entry). e.value.head) entry;
-  bytes = cut_short (view.end - view.at) (min view.end (length v.bytes) - view.at) (drop view.at v.bytes) (omega (arith, length-drop view.at v.bytes)) ∙ fronts.bytes;
-  onward = omega (arith, is.onward, begins);
+  bytes = fronts.bytes;
   number = ap (λ (l : List Role). unit_of l i) (ap roles (sym are.entries_are) ∙ roles_are os) ∙ unit_at_is os i s.o s.there;
   room = omega (arith, ap length whole, length-append (bytes_of (take i os)) (s.o.bytes ++ bytes_of s.rest), length-append s.o.bytes (bytes_of s.rest));
 } where
@@ -146,15 +125,8 @@ stands_at v os i view are less is = record {
   front = front_same [] [] (take view.at v.bytes) (drop view.at v.bytes) (s.o.bytes ++ bytes_of s.rest) (take i v.entries) [] (take i os) is.before (admits os i s are.are.admitted).before entries
       (take-append-drop view.at v.bytes ∙ whole)
 
-  -- the header has a byte, so the OBU begins before the end
-  begins : view.at < length v.bytes
-  begins = elim (order view.at (length v.bytes)) [
-    | inl below ↦ below
-    | inr past ↦ absurd (not_empty (head_of view.head) view.payload.now (take (view.end - view.at) (drop view.at v.bytes)) [] is.header (sym (append-nil (take (view.end - view.at) (drop view.at v.bytes)) ∙ nothing_taken (view.end - view.at) view.at v.bytes past)))
-  ]
-
   at : length (bytes_of (take i os)) ≡ view.at
-  at = sym (ap length front) ∙ length-take view.at v.bytes ∙ omega (arith, begins)
+  at = sym (ap length front) ∙ length-take view.at v.bytes ∙ omega (arith, is.onward, is.within)
 
   back : drop view.at v.bytes ≡ s.o.bytes ++ bytes_of s.rest
   back = ap₂ (λ (n : ℕ) (b : List ℕ). drop n b) (sym at) whole ∙ drop-append_seam (bytes_of (take i os)) (s.o.bytes ++ bytes_of s.rest)

@@ -1,17 +1,15 @@
 -- One more OBU of a sequence is gathered.
-use Rattle.std.proofs.Common.{◌≡◌, ℕ, ◌+◌, ◌-◌, ◌≤◌, ◌<◌, ◌^◌, min, List, [], ◌∷◌, ◌++◌, length, take, drop, map, refl, sym, ap, ap₂, subst, ◌∙◌, add-one, length-append, arith}
+use Rattle.std.proofs.Common.{◌≡◌, ℕ, ◌+◌, ◌-◌, ◌≤◌, ◌<◌, ◌^◌, List, [], length, take, map, refl, sym, ap, subst, ◌∙◌, add-one, arith}
 use Rattle.std.specs.Prelude.{Option, IfSome, IfOk, OnOk, Result, Ok, Err, sum, slice_range}
 use Rattle.std.specs.List.{flat_map}
 use Rattle.std.proofs.lemmas.List.{length-map, take_all}
-use Rattle.spec_obu.specs.Header.{Head}
 use Rattle.spec_rules.specs.Units.{unit_of}
 use Rattle.spec_rules.proofs.Placing.{unit_count-none}
-use Rattle.spec_sequence.specs.Reading.{Entry, roles, context_after}
-use Rattle.spec_bodies.specs.Spelled.{Spelled, entry_of, role_of, entries_of, bytes_of, AreSequence}
-use Rattle.spec_bodies.specs.SequenceBody.{units, descriptors}
+use Rattle.spec_sequence.specs.Reading.{roles, context_after}
+use Rattle.spec_bodies.specs.Spelled.{Spelled, entry_of, role_of, entries_of}
 use Rattle.spec_bodies.proofs.Sequences.{spelled, ended}
 use Rattle.spec_bodies.proofs.SpelledRoles.{no_fault}
-use Rattle.spec_bodies.proofs.OneMore.{descriptors-none, units-none, size}
+use Rattle.spec_bodies.proofs.OneMore.{descriptors-none, units-none}
 use Rattle.spec_bodies.proofs.Rebuilding.{rebuilds}
 use Rattle.spec_bodies.proofs.Growing.{Adds, adds}
 use Rattle.obu_header.specs.declared.view.ObuView.{ObuView}
@@ -21,7 +19,7 @@ use Rattle.iamf_sequence.specs.SequenceValue.{SequenceValue, IsRead}
 use Rattle.iamf_mux.specs.declared.gathered.Gathered.{Gathered}
 use Rattle.iamf_mux.specs.Gathering.{Slices, slices_of, no_slices, with_obu, AreObusOf, IsGathered, IsGatheredUpTo, IsGatheredOf}
 use Rattle.iamf_mux.proofs.Gathers.{IsLastOrNext, gathers, at_last, total}
-use Rattle.iamf_mux.proofs.ObuBytes.{Splits, Admits, StandsAt, stands_at}
+use Rattle.iamf_mux.proofs.ObuBytes.{Admits, stands_at}
 
 -- the OBUs of a sequence
 pub obus_of : (v : SequenceValue) → IsRead v.bytes v.entries → (os : List Spelled) × AreObusOf v os
@@ -44,16 +42,13 @@ adds_at past o a =
     let r = rebuilds past a.before in
     adds past r.0 o (role_of o) refl a.spelled (no_fault past (context_after (entries_of past)) o a.spelled a.admissible) r.1
 
-pub onward_at : (v : SequenceValue) (os : List Spelled) (i : ℕ) (view : ObuView) → AreObusOf v os → i < length os → IsObuAt v i view → view.at ≤ min view.end (length v.bytes)
-onward_at v os i view are less is = (stands_at v os i view are less is).onward
-
 pub last_at : (v : SequenceValue) (os : List Spelled) (i : ℕ) (view : ObuView) (s : Slices) (n : Option ℕ) → AreObusOf v os → i < length os → IsObuAt v i view → n ≡ unit_of (roles v.entries) i → IsGathered s (take i os)
     → IfSome n (IsLastOrNext s.unit_lengths)
 last_at v os i view s n are less is number g =
     let st = stands_at v os i view are less is in
     subst (λ (m : Option ℕ). IfSome m (IsLastOrNext s.unit_lengths)) (sym (number ∙ st.number)) (at_last s (take i os) st.splits.o (adds_at (take i os) st.splits.o st.admits) g)
 
-pub room_at : (v : SequenceValue) (os : List Spelled) (i : ℕ) (view : ObuView) (s : Slices) (bytes : List ℕ) → AreObusOf v os → i < length os → IsObuAt v i view → length v.bytes ≤ 2 ^ 30 → bytes ≡ slice_range v.bytes view.at (min view.end (length v.bytes))
+pub room_at : (v : SequenceValue) (os : List Spelled) (i : ℕ) (view : ObuView) (s : Slices) (bytes : List ℕ) → AreObusOf v os → i < length os → IsObuAt v i view → length v.bytes ≤ 2 ^ 30 → bytes ≡ slice_range v.bytes view.at view.end
     → IsGathered s (take i os) → sum s.unit_lengths + length bytes ≤ 2 ^ 30
 room_at v os i view s bytes are less is small bytes_is g =
     let st = stands_at v os i view are less is in
@@ -61,7 +56,7 @@ room_at v os i view s bytes are less is small bytes_is g =
     omega (arith, total s (take i os) g, r.small, st.room, small, ap length bytes_is, ap length st.bytes)
 
 pub more_at : (v : SequenceValue) (os : List Spelled) (i : ℕ) (view : ObuView) (s : Slices) (n : Option ℕ) (bytes : List ℕ) → AreObusOf v os → i < length os → IsObuAt v i view → n ≡ unit_of (roles v.entries) i
-    → bytes ≡ slice_range v.bytes view.at (min view.end (length v.bytes)) → IsGathered s (take i os) → IsGathered (with_obu (head_of view.head) n bytes s) (take (i + 1) os)
+    → bytes ≡ slice_range v.bytes view.at view.end → IsGathered s (take i os) → IsGathered (with_obu (head_of view.head) n bytes s) (take (i + 1) os)
 more_at v os i view s n bytes are less is number bytes_is g =
     let st = stands_at v os i view are less is in
     let o = st.splits.o in

@@ -2,4 +2,3 @@ pub mod Gathering
 pub mod Rates
 pub mod Demuxing
 pub mod FileOf
-pub mod Feeding

@@ -5,7 +5,7 @@ ghost use Rattle.spec_values.specs.Value.{ObuValue};
 ghost use Rattle.spec_sequence.specs.Reading.{Reads};
 ghost use Rattle.iamf_sequence.specs.Places.{IsRefused};
 ghost use Rattle.iamf_mux.specs.Demuxing.{bare, Demuxes, FindsBare};
-ghost use Rattle.iamf_mux.specs.Feeding.{Knows};
+ghost use Rattle.iamf_stream.specs.Feeding.{Knows};
 
 use iamf_sequence::{DecodeError, Refusal};
 use iamf_stream::StreamChecker;

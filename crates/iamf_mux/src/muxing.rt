@@ -28,9 +28,7 @@ fn put(gathered: &mut Gathered<'_>, sequence: &Sequence<'_>, i: usize) -> Result
     ensures { OnOk result (IsGatheredUpTo sequence.now (i + 1) gathered.new) }
 {
     let obu = sequence.obu(i);
-    // Of a last OBU no clause says that it ends within the bytes.
-    let end = obu.end.min(sequence.bytes().len());
-    gathered.add(&obu.head, sequence.unit_of(i), obu.at, end)?;
+    gathered.add(&obu.head, sequence.unit_of(i), obu.at, obu.end)?;
     Ok(())
 }
 
@@ -74,7 +72,7 @@ fn movie<'a>(sequence: &Sequence<'_>, gathered: &'a Gathered<'_>) -> Movie<'a>
     requires gathered { IsGatheredOf sequence.now (slices_of gathered.now) }
     requires closed { joined gathered.now.units.items ≡ (slices_of gathered.now).units }
     ensures file { IsFileOf sequence.now.bytes (file (movie_of result)) }
-    ensures pieces { joined result.data.now ≡ joined gathered.now.units.items }
+    ensures pieces { joined result.«data».now ≡ joined gathered.now.units.items }
 {
     let codec = sequence.codec();
     Movie {
@@ -108,8 +106,8 @@ pub fn mux(alloc: Global, sequence: &Sequence<'_>) -> Result<Vec<u8>, AllocError
 pub struct FileParts<'a> {
     /// All that stands before the data of the samples.
     pub front: Vec<u8>,
-    /// The data, which ends the file. What lies end to end in the sequence is one slice.
-    pub data: Vec<&'a [u8]>,
+    /// The data of the units, which ends the file. What lies end to end in the sequence is one slice.
+    pub units: Vec<&'a [u8]>,
 }
 
 /// The file that `mux` answers, in parts: the units stay where they are in the sequence.
@@ -125,6 +123,6 @@ pub fn file_parts<'a>(alloc: Global, sequence: &Sequence<'a>) -> Result<FilePart
     let front = write_front(alloc, &movie(sequence, &gathered))?;
     Ok(FileParts {
         front,
-        data: gathered.units,
+        units: gathered.units,
     })
 }

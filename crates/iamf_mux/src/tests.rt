@@ -89,8 +89,8 @@ fn what_lies_end_to_end_is_one_part_of_a_file(rt: HostRuntime) -> Result<(), Fai
     assert!(rt; bytes.len() <= 1 << 30);
     let sequence = decode(rt.alloc(), &bytes)?;
     let parts = file_parts(rt.alloc(), &sequence)?;
-    assert_eq!(rt; parts.data.len(), 2);
-    let data = joined(rt.alloc(), &parts.data)?;
+    assert_eq!(rt; parts.units.len(), 2);
+    let data = joined(rt.alloc(), &parts.units)?;
     assert_eq!(rt; data, joined(rt.alloc(), &[LATE, FRAME, FRAME])?);
     let file = joined(rt.alloc(), &[&parts.front, &data])?;
     assert_eq!(rt; file, mux(rt.alloc(), &sequence)?);

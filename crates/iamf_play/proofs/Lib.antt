@@ -1,4 +1,3 @@
-pub mod CodecNumbers
 pub mod ElementWalks
 pub mod GainRows
 pub mod MixSteps
@@ -8,6 +7,5 @@ pub mod PlanParts
 pub mod PlanShapes
 pub mod Renditions
 pub mod ReservedSteps
-pub mod SceneOutputs
 pub mod UnitsAreFew
 pub mod WaveShapes

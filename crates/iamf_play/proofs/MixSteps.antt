@@ -1,19 +1,40 @@
 -- The mix at a tick of a rendition that is played.
-use Rattle.std.proofs.Common.{arith, ◌≡◌, ◌<◌, ◌≤◌, ◌+◌, ◌*◌, ◌^◌, ℕ, ℤ, pos, sym, ap, subst, ◌∙◌, false, List, [], ◌∷◌, ◌++◌, map, length, get_or, set, take, unsigned_abs}
+use Rattle.std.proofs.Common.{arith, ◌≡◌, ◌<◌, ◌≤◌, ◌+◌, ◌*◌, ◌^◌, ℕ, ℤ, pos, Bool, true, false, ◌||◌, refl, sym, ap, subst, ◌∙◌, List, [], ◌∷◌, ◌++◌, map, length, get_or, set, take, unsigned_abs}
+use Rattle.std.specs.Prelude.{nat_lt}
 use Rattle.std.specs.List.{All}
 use borrow.Rule.Slice.PartMut.{put_mid}
 use Rattle.std.proofs.lemmas.Slice.{take-put_mid}
 use Rattle.std.proofs.lemmas.List.{set-get_or, get_or_default}
 use Rattle.spec_play.specs.Mixes.{MixedElement, Rendition}
 use Rattle.spec_play.specs.GainsOverTime.{gain_at}
-use Rattle.spec_play.specs.Selection.{is_gain_above}
+use Rattle.spec_play.specs.Selection.{is_gain_above, coded_channels}
+use Rattle.iamf_mixing.specs.Sums.{base}
 use Rattle.spec_play.specs.Laws.{IsPlayable}
-use Rattle.spec_play.proofs.Tests.{each_back}
+use Rattle.spec_rules.specs.Units.{is_none_of}
+use Rattle.spec_play.proofs.Tests.{each_back, neither}
 use Rattle.spec_play.proofs.SelectedMixes.{is_selected, few_elements}
 use Rattle.spec_play.proofs.GainsBounded.{gain_bounded}
 
 pub few : (r : Rendition) → IsPlayable r → length r.elements ≤ 28
 few r playable = few_elements r (is_selected r playable.selected).shape
+
+not_none : {X : Type 0} (xs : List X) → is_none_of xs ≡ false → 0 < length xs
+not_none [] e = absurd cc
+not_none (x ∷ xs) e = omega arith
+
+pub some : (r : Rendition) → IsPlayable r → 0 < length r.elements
+some r playable =
+    not_none r.elements (neither (is_none_of r.elements) (nat_lt 28 (length r.elements) || nat_lt 28 (coded_channels r.elements)) (is_selected r playable.selected).shape).0
+
+-- ---- what is added to, once it is not fresh
+
+pub base_is : (fresh : Bool) (z y : ℤ) → (fresh ≡ true → ⊥) → base fresh z ≡ y → z ≡ y
+base_is true z y old e = absurd (old refl)
+base_is false z y old e = e
+
+pub base_low : (fresh : Bool) (sums : List ℤ) (most : ℕ) → (fresh ≡ true → ⊥) → ((c : ℕ) → c < length sums → unsigned_abs (base fresh (get_or sums c (pos 0))) ≤ most) → (c : ℕ) → c < length sums → unsigned_abs (get_or sums c (pos 0)) ≤ most
+base_low true sums most old low = absurd (old refl)
+base_low false sums most old low = low
 
 pub output_low : (r : Rendition) (tick : ℕ) → IsPlayable r → gain_at r r.output tick ≤ 39810717055340
 output_low r tick playable =

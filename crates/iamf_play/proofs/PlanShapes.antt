@@ -21,7 +21,7 @@ use Rattle.spec_play.proofs.SelectedMixes.{is_selected}
 use Rattle.iamf_select.specs.PlanView.{PlanValue, IsSelected}
 use Rattle.iamf_select.proofs.Plans.{plan_is_playable}
 use Rattle.iamf_play.proofs.Renditions.{target_is}
-use Rattle.iamf_play.proofs.SceneOutputs.{IsCount, HasCount}
+use Rattle.spec_demix.proofs.SceneOutputs.{IsCount, HasCount}
 
 pub some_elements : (r : Rendition) → IsPlayable r → 0 < length r.elements
 some_elements r playable = one r.elements (neither (is_none_of r.elements) (nat_lt 28 (length r.elements) || nat_lt 28 (coded_channels r.elements)) (is_selected r playable.selected).shape).0

@@ -1,24 +1,22 @@
 -- What a rendition has of the sequence that it is heard of.
-use Rattle.std.proofs.Common.{arith, ◌≡◌, ◌<◌, ◌≤◌, ◌^◌, ℕ, refl, ap, subst, ◌∙◌, List, [], ◌∷◌, length, get_or, Option, Some, None}
+use Rattle.std.proofs.Common.{arith, ◌≡◌, ◌<◌, ◌≤◌, ◌^◌, ℕ, refl, ap, ◌∙◌, List, [], ◌∷◌, length, get_or, Option, Some, None}
 use Rattle.std.specs.Prelude.{IsTrue}
 use Rattle.spec_samples.specs.Lpcm.{is_depth}
-use Rattle.spec_descriptors.specs.CodecConfig.{CodingFields, Lpcm, Flac, CodecConfigFields}
+use Rattle.spec_descriptors.specs.CodecConfig.{CodecConfigFields}
 use Rattle.spec_descriptors.specs.MixPresentation.{SubMixFields, MixPresentationFields}
 use Rattle.spec_values.specs.Value.{ObuValue}
 use Rattle.spec_rules.specs.Units.{unit_count}
 use Rattle.spec_rules.specs.Samples.{kept}
-use Rattle.spec_sequence.specs.ValueRole.{role_of_codec}
 use Rattle.spec_sequence.specs.Parts.{roles_of, codec_configs, temporal_units}
 use Rattle.spec_sequence.specs.Reading.{Entry, Reads, values_of, roles}
 use Rattle.spec_sequence.proofs.Roles.{roles_of_values}
 use Rattle.iamf_sequence.specs.SequenceValue.{IsRead}
-use Rattle.iamf_sequence.proofs.Parting.{length-temporal_units}
+use Rattle.spec_sequence.proofs.FramesOfUnits.{length-units}
 use Rattle.spec_play.specs.declared.target.Target.{Target}
 use Rattle.spec_play.specs.Mixes.{Rendition, rendition, rendition_of_sub_mixes, rendition_of_mix, rendition_of, mix_of, codec_of, no_codec, unit_length}
-use Rattle.spec_play.proofs.Tests.{Each}
-use Rattle.spec_play.proofs.WholeFrames.{one_config}
-use Rattle.spec_play.proofs.CodecDepths.{HasDepth, sequence_depths}
-use Rattle.iamf_play.proofs.CodecNumbers.{HasRate, HasNumbers, sequence_numbers}
+use Rattle.spec_descriptors.proofs.CodecNumbers.{HasNumbers}
+use Rattle.spec_sequence.proofs.RoleNumbers.{role_depth, role_rate}
+use Rattle.spec_play.proofs.WholeFrames.{rendition_numbers}
 
 abbrev IsOne : List ObuValue → Target → Rendition → Type 0
 IsOne s target r = (x : SubMixFields) × (r ≡ rendition s target x)
@@ -49,7 +47,7 @@ pub codec_is : (s : List ObuValue) (mix : ℕ) (target : Target) (r : Rendition)
 codec_is s mix target r c e one = ap (λ (q : Rendition). q.codec) (one_of s mix target r e).1 ∙ ap (λ (cs : List CodecConfigFields). get_or cs 0 no_codec) one
 
 pub unit_count_is : (l : List Entry) (mix : ℕ) (target : Target) (r : Rendition) → rendition_of (values_of l) mix target ≡ Some r → length r.units ≡ unit_count (roles l)
-unit_count_is l mix target r e = ap length (units_are (values_of l) mix target r e) ∙ length-temporal_units (values_of l) ∙ ap unit_count (roles_of_values l)
+unit_count_is l mix target r e = ap length (units_are (values_of l) mix target r e) ∙ length-units (values_of l) ∙ ap unit_count (roles_of_values l)
 
 -- ---- its codec
 
@@ -57,29 +55,15 @@ pub reads_of : (bytes : List ℕ) (l : List Entry) → IsRead bytes l → Reads 
 reads_of bytes l read = record { entries = l; values_are = refl; admitted = read.admitted; whole = read.whole }
 
 numbers : (bytes : List ℕ) (l : List Entry) (mix : ℕ) (target : Target) (r : Rendition) → IsRead bytes l → rendition_of (values_of l) mix target ≡ Some r → HasNumbers r.codec
-numbers bytes l mix target r read e =
-    let reads = reads_of bytes l read in
-    (subst (λ (cs : List CodecConfigFields). Each HasNumbers cs) (one_config bytes (values_of l) mix target r reads e) (sequence_numbers bytes (values_of l) reads)).0
+numbers bytes l mix target r read e = rendition_numbers bytes (values_of l) mix target r (reads_of bytes l read) e
 
 pub short_unit : (bytes : List ℕ) (l : List Entry) (mix : ℕ) (target : Target) (r : Rendition) → IsRead bytes l → rendition_of (values_of l) mix target ≡ Some r → unit_length r < 2 ^ 17
 short_unit bytes l mix target r read e = let low = (numbers bytes l mix target r read e).length in omega arith
 
-rate_of : (c : CodecConfigFields) → HasRate c.coding → (role_of_codec c).rate ≤ 96000
-rate_of c h = by c.coding h where
-  by : (k : CodingFields) → HasRate k → (role_of_codec (record { codec_config_id = c.codec_config_id; num_samples_per_frame = c.num_samples_per_frame; coding = k })).rate ≤ 96000
-  by (Lpcm little depth rate) h = h
-  by (Flac info others) h = h
-
-depth_of : (c : CodecConfigFields) → HasDepth c.coding → IsTrue (is_depth (role_of_codec c).depth)
-depth_of c h = by c.coding h where
-  by : (k : CodingFields) → HasDepth k → IsTrue (is_depth (role_of_codec (record { codec_config_id = c.codec_config_id; num_samples_per_frame = c.num_samples_per_frame; coding = k })).depth)
-  by (Lpcm little depth rate) h = h
-  by (Flac info others) h = h
-
 pub low_rate : (bytes : List ℕ) (l : List Entry) (mix : ℕ) (target : Target) (r : Rendition) → IsRead bytes l → rendition_of (values_of l) mix target ≡ Some r → (codec_of r).rate ≤ 96000
-low_rate bytes l mix target r read e = rate_of r.codec (numbers bytes l mix target r read e).rate
+low_rate bytes l mix target r read e =
+    role_rate r.codec.codec_config_id r.codec.num_samples_per_frame r.codec.coding (numbers bytes l mix target r read e).rate
 
 pub some_depth : (bytes : List ℕ) (l : List Entry) (mix : ℕ) (target : Target) (r : Rendition) → IsRead bytes l → rendition_of (values_of l) mix target ≡ Some r → IsTrue (is_depth (codec_of r).depth)
 some_depth bytes l mix target r read e =
-    let reads = reads_of bytes l read in
-    depth_of r.codec (subst (λ (cs : List CodecConfigFields). Each (λ (c : CodecConfigFields). HasDepth c.coding) cs) (one_config bytes (values_of l) mix target r reads e) (sequence_depths bytes (values_of l) reads)).0
+    role_depth r.codec.codec_config_id r.codec.num_samples_per_frame r.codec.coding (numbers bytes l mix target r read e).depth

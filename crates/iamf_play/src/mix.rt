@@ -27,15 +27,6 @@ pub(crate) fn begin_elements<'a>(
     }
 }
 
-/// Sets the sums to 0.
-fn clear(sums: &mut [i128])
-    ensures { (c : ℕ) → c < length sums.old → slice_index_or sums.new c (pos 0) ≡ pos 0 }
-{
-    for sum in sums.iter_mut() {
-        *sum = 0;
-    }
-}
-
 /// The sum of the elements at tick `n` in each channel. Nothing is clipped.
 fn add_elements(elements: &mut [PlayedElement<'_, '_>], n: usize, sums: &mut [i128])
     requires at { (s : SequenceValue) × (r : Rendition) × (u : ℕ) × IsAt s r u (length sums.old) elements.old × (n < unit_length r) }
@@ -43,9 +34,10 @@ fn add_elements(elements: &mut [PlayedElement<'_, '_>], n: usize, sums: &mut [i1
     ensures small { All (λ z. unsigned_abs z < 2 ^ 78) sums.new }
     ensures same { elements.new ≡ elements.old }
 {
-    clear(sums);
+    let mut fresh = true;
     for element in elements.iter_mut() {
-        element.add(n, sums);
+        element.add(n, fresh, sums);
+        fresh = false;
     }
 }
 

@@ -13,7 +13,7 @@ ghost use Rattle.iamf_rules.specs.BlockSteps.{no_block, slot_at, unit_start, uni
 use crate::clashing;
 use crate::clashing::copy_of;
 use obu_data::{Definition, Definitions, Shape};
-use obu_descriptors::Timing;
+use obu_descriptors::Cadence;
 use std::alloc::{AllocError, Global};
 use std::collections::BTreeMap;
 
@@ -52,14 +52,14 @@ impl UnitTime {
 }
 
 /// How long a block of a mix gain lasts, by its own duration or else by its definition.
-fn lasting(timing: &Timing, own: Option<u32>) -> u32
-    ensures value { result ≡ duration_by (Some (MixGain timing.now.rate (option_map view_fixed timing.now.fixed))) own }
+fn lasting(cadence: &Cadence, own: Option<u32>) -> u32
+    ensures value { result ≡ duration_by (Some (MixGain cadence.now.rate (option_map view_fixed cadence.now.fixed))) own }
     ensures small { result < 2 ^ 32 }
 {
     if let Some(duration) = own {
         return duration;
     }
-    match &timing.fixed {
+    match &cadence.fixed {
         Some(fixed) => {
             let duration = fixed.duration;
             duration
@@ -138,8 +138,8 @@ impl Blocks {
         };
         let slot = self.slot(id);
         match shape {
-            Shape::Gain(timing) => {
-                timing.rate == time.rate && time.end() <= time.start().max(slot.end)
+            Shape::Gain(cadence) => {
+                cadence.rate == time.rate && time.end() <= time.start().max(slot.end)
             }
             Shape::Demix(_) => time.number < slot.units,
             Shape::Recon(..) => time.number < slot.units,
@@ -158,9 +158,9 @@ impl Blocks {
             None => return slot.end,
         };
         match shape {
-            Shape::Gain(timing) if timing.rate == time.rate => {
+            Shape::Gain(cadence) if cadence.rate == time.rate => {
                 let start = time.start().max(slot.end);
-                start.saturating_add(u128::from(lasting(timing, own)))
+                start.saturating_add(u128::from(lasting(cadence, own)))
             }
             _ => slot.end,
         }

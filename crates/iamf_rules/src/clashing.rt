@@ -18,16 +18,16 @@ pub(crate) fn copy_of(alloc: Global, shape: &Shape) -> Result<Shape, AllocError>
     ensures allowed { IfOk result (λ copy. MayDefine copy) }
 {
     match shape {
-        Shape::Gain(timing) => {
-            let copy = timing.try_clone(alloc)?;
+        Shape::Gain(cadence) => {
+            let copy = cadence.try_clone(alloc)?;
             Ok(Shape::Gain(copy))
         }
-        Shape::Demix(timing) => {
-            let copy = timing.try_clone(alloc)?;
+        Shape::Demix(cadence) => {
+            let copy = cadence.try_clone(alloc)?;
             Ok(Shape::Demix(copy))
         }
-        Shape::Recon(timing, layers, flags) => {
-            let copy = timing.try_clone(alloc)?;
+        Shape::Recon(cadence, layers, flags) => {
+            let copy = cadence.try_clone(alloc)?;
             Ok(Shape::Recon(copy, *layers, *flags))
         }
     }

@@ -10,8 +10,6 @@ mod plan;
 mod selecting;
 mod selection;
 mod shapes;
-#[cfg(test)]
-mod tests;
 
 pub use plan::Plan;
 pub use selecting::select;

@@ -4,7 +4,6 @@ pub mod Advancing
 pub mod Apart
 pub mod CanonicalBytes
 pub mod Changing
-pub mod Complete
 pub mod Finishing
 pub mod Frames
 pub mod Keeping

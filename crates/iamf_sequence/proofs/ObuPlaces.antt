@@ -1,5 +1,5 @@
 -- The view of each OBU of a sequence stands where the OBUs before it end.
-use Rattle.std.proofs.Common.{◌≡◌, ℕ, zero, suc, ◌+◌, ◌-◌, ◌<◌, List, [], ◌∷◌, ◌++◌, length, get_or, take, drop, refl, sym, ap, subst, ◌∙◌, arith, append_assoc, append-nil, add-one}
+use Rattle.std.proofs.Common.{◌≡◌, ℕ, zero, suc, ◌+◌, ◌-◌, ◌<◌, ◌≤◌, List, [], ◌∷◌, ◌++◌, length, get_or, take, drop, refl, sym, ap, subst, ◌∙◌, arith, append_assoc, append-nil, add-one}
 use Rattle.std.specs.Prelude.{Some, slice_get}
 use Rattle.std.proofs.lemmas.List.{take-append-drop, drop-drop}
 use Rattle.std.proofs.Math.Seq.{take-add}
@@ -15,14 +15,20 @@ use Rattle.iamf_sequence.specs.SequenceValue.{SequenceValue}
 use Rattle.iamf_sequence.specs.SequenceView.{AreViews, views_of}
 use Rattle.iamf_sequence.proofs.Advancing.{admitted_last}
 
--- of an OBU of a list that stands after others
-pub record StandsAt (bytes : List ℕ) (past es : List Entry) (i : ℕ) (o : ObuView) : Type 0 where
+-- what tiles goes on
+tiled_onward : (bytes : List ℕ) (from to : ℕ) (os : List ObuView) → Tiles bytes from os to → from ≤ to
+tiled_onward bytes from to [] t = omega (arith, t)
+tiled_onward bytes from to (o ∷ os) t = omega (arith, t.1, tiled_onward bytes o.end to os t.3)
+
+-- of an OBU of a list that stands after others, up to an end
+pub record StandsAt (bytes : List ℕ) (past es : List Entry) (end i : ℕ) (o : ObuView) : Type 0 where
   pub entry : Entry
   pub there : slice_get es i ≡ Some entry
   pub head : head_of o.head ≡ entry.value.head
   pub payload : o.payload.now ≡ entry.payload
   pub before : Admitted (take o.at bytes) (past ++ take i es)
   pub onward : o.at < o.end
+  pub within : o.end ≤ end
   pub header : Header (head_of o.head) o.payload.now (take (o.end - o.at) (drop o.at bytes))
   pub after : Admitted (take o.end bytes) (past ++ take (suc i) es)
 
@@ -49,7 +55,7 @@ splits bytes past e es at o before h onward header head payload =
     }
 
 stands_at : (bytes : List ℕ) (past es : List Entry) (at end : ℕ) (ps : List Placed) (i : ℕ) (d : Placed) → Admitted (take at bytes) past → AdmittedAfter past (drop at bytes) es → Tiles bytes at (views_of ps) end → AreViews (views_of ps) es → i < length ps
-    → StandsAt bytes past es i (get_or ps i d).view
+    → StandsAt bytes past es end i (get_or ps i d).view
 stands_at bytes past es at end [] i d before h tiles views below = absurd (omega arith)
 stands_at bytes past [] at end (p ∷ ps) i d before h tiles views below = absurd views
 stands_at bytes past (e ∷ es) at end (p ∷ ps) zero d before h tiles views below =
@@ -62,6 +68,7 @@ stands_at bytes past (e ∷ es) at end (p ∷ ps) zero d before h tiles views be
       payload = views.1;
       before = subst (λ (n : ℕ). Admitted (take n bytes) (past ++ [])) here (subst (λ (l : List Entry). Admitted (take at bytes) l) (sym (append-nil past)) before);
       onward = subst (λ (n : ℕ). n < p.view.end) here tiles.1;
+      within = tiled_onward bytes p.view.end end (views_of ps) tiles.3;
       header = subst (λ (n : ℕ). Header (head_of p.view.head) p.view.payload.now (take (p.view.end - n) (drop n bytes))) here tiles.2;
       after = s.after;
     }
@@ -75,6 +82,7 @@ stands_at bytes past (e ∷ es) at end (p ∷ ps) (suc i) d before h tiles views
       payload = r.payload;
       before = subst (λ (l : List Entry). Admitted (take (get_or ps i d).view.at bytes) l) (append_assoc past (e ∷ []) (take i es)) r.before;
       onward = r.onward;
+      within = r.within;
       header = r.header;
       after = subst (λ (l : List Entry). Admitted (take (get_or ps i d).view.end bytes) l) (append_assoc past (e ∷ []) (take (suc i) es)) r.after;
     }
@@ -89,6 +97,7 @@ obu_at v ps i d admitted tiles views below =
       payload = r.payload;
       before = r.before;
       onward = r.onward;
+      within = r.within;
       header = r.header;
       after = subst (λ (n : ℕ). Admitted (take (get_or ps i d).view.end v.bytes) (take n v.entries)) (sym (add-one i)) r.after;
     }

@@ -1,5 +1,5 @@
 -- What one more OBU at the end changes in the units of a sequence.
-use Rattle.std.proofs.Common.{◌≡◌, ◌⊎◌, ℕ, zero, suc, ◌+◌, ◌≤◌, ◌<◌, Bool, true, false, ◌&&◌, cond, ltb, List, [], ◌∷◌, ◌++◌, length, length-append, map, refl, sym, ap, ◌∙◌, inl, inr, append_assoc, append-nil, add-one, eq-eqb, ne_eqb, le-ltb, arith}
+use Rattle.std.proofs.Common.{◌≡◌, ◌⊎◌, ℕ, zero, suc, ◌+◌, ◌≤◌, ◌<◌, Bool, true, false, ◌&&◌, cond, ltb, List, [], ◌∷◌, ◌++◌, map, refl, sym, ap, ◌∙◌, inl, inr, append_assoc, append-nil, add-one, eq-eqb, ne_eqb, le-ltb, arith}
 use Rattle.std.specs.Prelude.{if◌then◌else◌, ◌==◌}
 use Rattle.std.specs.List.{flat_map}
 use Rattle.std.proofs.lemmas.Bool.{cases_lt}
@@ -12,6 +12,7 @@ use Rattle.spec_rules.specs.Units.{is_data, unit_after, unit_count}
 use Rattle.spec_sequence.specs.Parts.{roles_of, frame_of, block_of, numbered_after, if_of_unit, obus_of, UnitValue, unit_value, units_up_to, temporal_units}
 use Rattle.spec_rules.proofs.Placing.{unit_count-push}
 use Rattle.spec_sequence.proofs.Roles.{roles_of_more}
+use Rattle.spec_sequence.proofs.FramesOfUnits.{length-units_up_to}
 use Rattle.iamf_sequence.specs.UnitView.{opened, change_last}
 use Rattle.iamf_sequence.specs.ContentsView.{HasNoLater}
 
@@ -74,14 +75,6 @@ units_up_to-same zero s t same = refl
 units_up_to-same (suc n) s t same =
     ap (λ (vs : List UnitValue). vs ++ unit_value n t ∷ []) (units_up_to-same n s t (λ u below. same u (omega arith)))
     ∙ ap (λ (os : List ObuValue). units_up_to n s ++ value_of os ∷ []) (same n (omega arith))
-
-pub length-units_up_to : (n : ℕ) (s : List ObuValue) → length (units_up_to n s) ≡ n
-length-units_up_to zero s = refl
-length-units_up_to (suc n) s = simp length-append (ap (λ m. m + 1) (length-units_up_to n s) ∙ add-one n)
-
-pub length-temporal_units : (s : List ObuValue) → length (temporal_units s) ≡ unit_count (roles_of s)
-unfolding temporal_units
-length-temporal_units s = length-units_up_to (unit_count (roles_of s)) s
 
 pub units-quiet : (s : List ObuValue) (o : ObuValue) → is_data (role o) ≡ false → temporal_units (s ++ o ∷ []) ≡ temporal_units s
 unfolding temporal_units

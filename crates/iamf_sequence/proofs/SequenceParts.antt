@@ -20,7 +20,7 @@ use Rattle.iamf_sequence.specs.declared.parts.Parts.{Parts}
 use Rattle.iamf_sequence.specs.UnitView.{IsUnit, AreUnits}
 use Rattle.iamf_sequence.specs.SequenceValue.{SequenceValue}
 use Rattle.iamf_sequence.specs.SequenceView.{AreViews, views_of, IsSequence}
-use Rattle.iamf_sequence.proofs.Parting.{length-temporal_units}
+use Rattle.spec_sequence.proofs.FramesOfUnits.{length-units}
 
 -- ---- how many there are
 
@@ -40,7 +40,7 @@ pub obus_counted : (p : Parts) (v : SequenceValue) → IsSequence p v → length
 obus_counted p v s = sym (length-map p.obus.items (λ (o : Placed). o.view)) ∙ views_length (views_of p.obus.items) v.entries s.views
 
 pub units_counted : (p : Parts) (v : SequenceValue) → IsSequence p v → length p.units.items ≡ unit_count (roles v.entries)
-units_counted p v s = same_length p.units.items (temporal_units (values_of v.entries)) s.units ∙ length-temporal_units (values_of v.entries) ∙ ap unit_count (roles_of_values v.entries)
+units_counted p v s = same_length p.units.items (temporal_units (values_of v.entries)) s.units ∙ length-units (values_of v.entries) ∙ ap unit_count (roles_of_values v.entries)
 
 pub elements_counted : (p : Parts) (v : SequenceValue) → IsSequence p v → length p.elements.items ≡ length (audio_elements (values_of v.entries))
 elements_counted p v s = sym (length-map p.elements.items view_element) ∙ ap length s.elements

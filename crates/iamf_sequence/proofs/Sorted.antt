@@ -9,7 +9,7 @@ use Rattle.spec_rules.specs.Units.{are_apart}
 use Rattle.spec_rules.specs.Admitted.{IsAdmitted}
 use Rattle.iamf_sequence.specs.declared.unit.Unit.{Unit as Temporal}
 use Rattle.iamf_sequence.specs.UnitView.{view_unit, IsUnit, AreUnits}
-use Rattle.iamf_sequence.proofs.Parting.{length-temporal_units}
+use Rattle.spec_sequence.proofs.FramesOfUnits.{length-units}
 use Rattle.iamf_sequence.proofs.Whole.{unit_is}
 use Rattle.iamf_sequence.proofs.Apart.{frames_apart}
 
@@ -17,7 +17,7 @@ use Rattle.iamf_sequence.proofs.Apart.{frames_apart}
 pub unit_at : (us : List Temporal) (s : List ObuValue) (i : ℕ) (d : Temporal) → map view_unit us ≡ temporal_units s → i < length us → view_unit (get_or us i d) ≡ unit_value i s
 unit_at us s i d are lt =
     sym (get_or-map view_unit us i d (view_unit d) lt) ∙ ap (λ (vs : List UnitValue). get_or vs i (view_unit d)) are
-    ∙ get_or_from_slice_get (temporal_units s) i (unit_value i s) (view_unit d) (unit_is s i (omega (arith, sym (length-map us view_unit), ap length are, length-temporal_units s)))
+    ∙ get_or_from_slice_get (temporal_units s) i (unit_value i s) (view_unit d) (unit_is s i (omega (arith, sym (length-map us view_unit), ap length are, length-units s)))
 
 -- what a sort of it asks
 pub unit_apart : (l : List Entry) (us : List Temporal) (i : ℕ) (d : Temporal) → IsAdmitted (roles l) → map view_unit us ≡ temporal_units (values_of l) → i < length us

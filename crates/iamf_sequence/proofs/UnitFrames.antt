@@ -1,5 +1,5 @@
 -- The frames of a sequence's temporal units, by its OBUs.
-use Rattle.std.proofs.Common.{◌≡◌, ℕ, ◌<◌, Bool, true, false, cond, eqb, List, [], ◌∷◌, ◌||◌, length, map, refl, sym, ap, subst, ◌∙◌}
+use Rattle.std.proofs.Common.{◌≡◌, ℕ, ◌<◌, Bool, true, false, cond, eqb, List, [], ◌∷◌, ◌||◌, map, refl, sym, ap, subst, ◌∙◌}
 use Rattle.std.specs.Prelude.{Some, None, is_some, slice_get}
 use Rattle.std.proofs.lemmas.Option.{same_Some}
 use Rattle.spec_rules.specs.Role.{Role}
@@ -12,7 +12,7 @@ use Rattle.iamf_sequence.specs.UnitView.{frame_with}
 use Rattle.spec_rules.specs.Admitted.{IsAdmitted}
 use Rattle.spec_rules.specs.Rules.{end_fault}
 use Rattle.iamf_sequence.proofs.Whole.{streams_are, unit_is}
-use Rattle.iamf_sequence.proofs.Complete.{streams_of_unit}
+use Rattle.spec_rules.proofs.CompleteUnits.{streams_of_unit}
 
 frame_there : (s : ℕ) (fs : List FrameValue) → is_some (frame_with s fs) ≡ contains (map (λ f. f.substream) fs) s
 frame_there s [] = refl

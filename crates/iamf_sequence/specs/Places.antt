@@ -1,5 +1,5 @@
 -- Where OBUs stand in bytes, and where bytes are refused.
-use Rattle.std.specs.Prelude.{◌≡◌, ◌+◌, ◌-◌, ◌<◌, ℕ, List, [], ◌∷◌, take, drop, slice_get, Some}
+use Rattle.std.specs.Prelude.{◌≡◌, ◌+◌, ◌-◌, ◌<◌, ◌≤◌, ℕ, List, [], ◌∷◌, length, take, drop, slice_get, Some}
 use Rattle.spec_obu.specs.Header.{Header}
 use Rattle.obu_header.specs.declared.view.ObuView.{ObuView}
 use Rattle.obu_header.specs.View.{head_of}
@@ -36,7 +36,8 @@ Tiles bytes from [] to = from ≡ to
 Tiles bytes from (o ∷ os) to = (o.at ≡ from) × (from < o.end) × Header (head_of o.head) o.payload.now (take (o.end - from) (drop from bytes)) × Tiles bytes o.end os to
 
 -- The view is of the OBU with this index. The bytes up to its place are the OBUs before it, those from there to its end
--- are a header with these fields and then this payload, and up to its end the bytes are these OBUs and it.
+-- are a header with these fields and then this payload, and up to its end, which is within the bytes, they are these OBUs
+-- and it.
 pub record IsObuAt (v : SequenceValue) (i : ℕ) (o : ObuView) : Type 0 where
   pub entry : Entry
   pub there : slice_get v.entries i ≡ Some entry
@@ -44,5 +45,6 @@ pub record IsObuAt (v : SequenceValue) (i : ℕ) (o : ObuView) : Type 0 where
   pub payload : o.payload.now ≡ entry.payload
   pub before : Admitted (take o.at v.bytes) (take i v.entries)
   pub onward : o.at < o.end
+  pub within : o.end ≤ length v.bytes
   pub header : Header (head_of o.head) o.payload.now (take (o.end - o.at) (drop o.at v.bytes))
   pub after : Admitted (take o.end v.bytes) (take (i + 1) v.entries)

@@ -3,3 +3,4 @@ pub mod Passing
 pub mod Walking
 pub mod Pieces
 pub mod Checking
+pub mod Fed

@@ -3,3 +3,4 @@ pub mod Front
 pub mod Standing
 pub mod Steps
 pub mod CheckerView
+pub mod Feeding

@@ -5,8 +5,6 @@ mod checker;
 mod front;
 mod open;
 mod refusal;
-#[cfg(test)]
-mod tests;
 mod walk;
 
 pub use checker::StreamChecker;

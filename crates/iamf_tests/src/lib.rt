@@ -1,5 +1,5 @@
-//! Tests of the rules of a sequence, of the admission of OBUs, of sequences and of the report. They stand apart, since a crate
-//! with tests is proved twice.
+//! Tests of the rules of a sequence, of the admission of OBUs, of sequences, of streams and of the report. They stand apart, since
+//! a crate with tests is proved twice.
 #![tactic(auto)]
 
 #[cfg(test)]
@@ -10,3 +10,5 @@ mod report;
 mod rules;
 #[cfg(test)]
 mod sequences;
+#[cfg(test)]
+mod streams;

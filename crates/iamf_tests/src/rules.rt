@@ -5,7 +5,7 @@ ghost use Rattle.iamf_rules.specs.RoleView.{CanDefine};
 
 use iamf_rules::{Role, Rules};
 use obu_data::{Definition, Shape};
-use obu_descriptors::{Fixed, Timing};
+use obu_descriptors::{Cadence, Fixed};
 use smallvec::SmallVec;
 use spec_obu::{ObuType, Trim};
 use spec_rules::{Codec, CodecRole};
@@ -304,9 +304,8 @@ fn flac_frames_without_room_are_not_read(rt: HostRuntime) -> Result<(), Fail> {
 }
 
 /// The timing of blocks of one subblock, of 4 ticks.
-fn timing(alloc: Global, rate: u32) -> Timing {
-    Timing {
-        id: 100,
+fn cadence(alloc: Global, rate: u32) -> Cadence {
+    Cadence {
         rate,
         fixed: Some(Fixed {
             duration: 4,
@@ -324,7 +323,7 @@ fn definitions_agree(rt: HostRuntime) -> Result<(), Fail> {
     for (id, rate, fault) in [(3, 48000, None), (4, 44100, Some(Fault::ParamClash(100)))] {
         let gain = Definition {
             id: 100,
-            shape: Shape::Gain(timing(alloc, rate)),
+            shape: Shape::Gain(cadence(alloc, rate)),
         };
         let mix = Role::MixPresentation {
             id,
@@ -362,7 +361,7 @@ fn a_block_starts_in_its_unit(rt: HostRuntime) -> Result<(), Fail> {
     assert_steps(&rt, alloc, &mut rules, LPCM)?;
     let gain = Definition {
         id: 100,
-        shape: Shape::Gain(timing(alloc, 48000)),
+        shape: Shape::Gain(cadence(alloc, 48000)),
     };
     let mix = Role::MixPresentation {
         id: 3,

@@ -1,5 +1,5 @@
 -- How a check ends, by what the bytes of the source are and how it was left.
-use Rattle.std.proofs.Common.{◌≡◌, ℕ, List, Result, Ok, Err, refl, sym, subst}
+use Rattle.std.proofs.Common.{◌≡◌, ℕ, List, Result, Ok, Err, sym, subst}
 use Rattle.std.specs.Prelude.{IfOk}
 use Rattle.spec_report.specs.Report.{report}
 use Rattle.iamf_io.specs.declared.whole.ReadError.{ReadError}
@@ -13,7 +13,7 @@ use Rattle.iamf_tool.specs.Answers.{view_answer}
 use Rattle.iamf_tool.specs.Outcome.{SequenceGives}
 use Rattle.iamf_tool.specs.Status.{status_of, status_line}
 use Rattle.iamf_tool.specs.Ends.{Ran, IsUntouched, Noted, Ends}
-use Rattle.iamf_mux.specs.Feeding.{Tells}
+use Rattle.iamf_stream.specs.Feeding.{Tells}
 use Rattle.iamf_tool.specs.Checks.{LeavesOff}
 use Rattle.iamf_tool.proofs.Refused.{AnswersTo, refusal_gives}
 

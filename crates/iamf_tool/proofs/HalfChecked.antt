@@ -5,8 +5,8 @@ use Rattle.std.proofs.KnownBytes.{Consumes-nil, Consumes-trans}
 use Rattle.iamf_report.specs.Lines.{Facts}
 use Rattle.iamf_sequence.specs.declared.refusal.DecodeError.{DecodeError}
 use Rattle.iamf_stream.specs.CheckerView.{CheckerValue, Stands}
-use Rattle.iamf_mux.specs.Feeding.{Knows}
-use Rattle.iamf_mux.proofs.Fed.{IsFed, knows_more, fed_more, IsFinished, tells}
+use Rattle.iamf_stream.specs.Feeding.{Knows}
+use Rattle.iamf_stream.proofs.Fed.{IsFed, knows_more, fed_more, IsFinished, tells}
 use Rattle.iamf_tool.specs.Ends.{Side}
 use Rattle.iamf_tool.specs.Checks.{ChecksAll, GaveTooMany}
 

@@ -6,7 +6,7 @@ use Rattle.iamf_io.specs.declared.whole.ReadError.{ReadError}
 use Rattle.iamf_io.specs.declared.whole.ReadError.TheVariants.{Failed, TooLarge, Memory}
 use Rattle.iamf_report.specs.Lines.{Facts}
 use Rattle.iamf_sequence.specs.declared.refusal.DecodeError.{DecodeError}
-use Rattle.iamf_mux.specs.Feeding.{Tells}
+use Rattle.iamf_stream.specs.Feeding.{Tells}
 use Rattle.iamf_tool.specs.Ends.{Side}
 
 -- all bytes that were left were taken, and are so

@@ -4,7 +4,7 @@ ghost use Rattle.spec_report.specs.Report.{report};
 ghost use Rattle.iamf_tool.specs.declared.command.Command.TheVariants as given;
 ghost use Rattle.iamf_tool.specs.Outcome.{SequenceGives};
 ghost use Rattle.iamf_tool.specs.Answers.{view_answer};
-ghost use Rattle.iamf_mux.specs.Feeding.{Tells};
+ghost use Rattle.iamf_stream.specs.Feeding.{Tells};
 ghost use Rattle.iamf_tool.specs.Checks.{Checks};
 ghost use Rattle.iamf_tool.specs.Ends.{side, ran, Ends};
 

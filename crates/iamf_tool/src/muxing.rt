@@ -36,7 +36,7 @@ fn write_parts<W: Sink>(
         Ok(()) => {}
         Err(failed) => return Err(failed),
     }
-    match put_pieces(waiting, &parts.data, out) {
+    match put_pieces(waiting, &parts.units, out) {
         Ok(()) => finish(waiting, out),
         Err(failed) => Err(failed),
     }

@@ -72,8 +72,9 @@ word_low x r e = rw e (floor-low x (2 ^ 64) (omega arith))
 pub word_high : (x r : ℤ) → r ≡ floor_of x (2 ^ 64) → x <ℤ (r *ℤ pos 18446744073709551616 +ℤ pos 18446744073709551616)
 word_high x r e = rw e (floor-high x (2 ^ 64) (omega arith))
 
-pub lowest : (h : ℕ) → h ≤ 2147483648 → to_z w32 (of_z w32 (to_z w64 (of_z w64 (pos 0 -ℤ to_z w64 h)))) ≡ neg_ℤ (pos h)
+-- the ends of the samples in 32 bits
+pub lowest : (h : ℕ) → h ≤ 2147483648 → to_z w32 (of_z w32 (neg_ℤ (pos h))) ≡ neg_ℤ (pos h)
 lowest h small = omega (arith, ints)
 
-pub highest : (h : ℕ) → 1 ≤ h → h ≤ 2147483648 → to_z w32 (of_z w32 (to_z w64 (of_z w64 (to_z w64 h -ℤ pos 1)))) ≡ pos h -ℤ pos 1
+pub highest : (h : ℕ) → 1 ≤ h → h ≤ 2147483648 → to_z w32 (of_z w32 (pos h -ℤ pos 1)) ≡ pos h -ℤ pos 1
 highest h some small = omega (arith, ints)

@@ -1,10 +1,10 @@
 -- Floors of numbers that are taken as whole bottoms and a rest.
-use Rattle.std.proofs.Common.{arith, ◌≡◌, ◌<◌, ◌≤◌, ℕ, ℤ, pos, ◌+ℤ◌, ◌-ℤ◌, ◌*ℤ◌, ◌^◌, ◌+◌, ◌*◌, ◌/◌, unsigned_abs, FitsSigned, ◌∙◌}
+use Rattle.std.proofs.Common.{arith, ◌≡◌, ◌<◌, ◌≤◌, ℕ, ℤ, pos, ◌+ℤ◌, ◌-ℤ◌, ◌*ℤ◌, ◌^◌, ◌+◌, ◌*◌, ◌/◌, unsigned_abs, FitsSigned, ap, sym, ◌∙◌}
 use Rattle.std.proofs.lemmas.Int.{ints, unsigned_abs-mul}
 use Rattle.std.proofs.Math.Nat.{mul-le-mul}
 use Rattle.std.proofs.Math.IntN.{*ℤ_comm}
 use Rattle.spec_demix.specs.Floor.{floor_of}
-use Rattle.spec_demix.proofs.FloorLemmas.{floor-low, floor-high, distribute, distribute_minus}
+use Rattle.spec_demix.proofs.FloorLemmas.{floor-low, floor-high, distribute, distribute_minus, spread}
 use Rattle.demix_layers.proofs.Floors.{floor_only, reassociate}
 use Rattle.std.specs.Int.{w64}
 use Rattle.mix_fixed.specs.Quiet.{hundredth}
@@ -30,15 +30,18 @@ times_split k x q r n e =
 pub over_split : (k : ℕ) (x q : ℤ) (r n : ℕ) → 0 < n → q *ℤ pos n +ℤ pos r ≡ x → floor_of (pos k *ℤ x) n ≡ pos k *ℤ q +ℤ pos (k * r / n)
 over_split k x q r n some e = rw (times_split k x q (pos r) n e) (floor_more (pos k *ℤ q) (pos k *ℤ pos r) n some)
 
-pub behind_split : (k : ℕ) (x part q p : ℤ) (r s n : ℕ) → 0 < n → q *ℤ pos n +ℤ pos r ≡ x → p *ℤ pos n +ℤ pos s ≡ (pos 0 -ℤ part)
-    → floor_of (pos 1000 *ℤ x -ℤ pos k *ℤ part) n ≡ pos 1000 *ℤ q +ℤ pos k *ℤ p +ℤ pos ((1000 * r + k * s) / n)
-behind_split k x part q p r s n some e f =
-    let a = times_split 1000 x q (pos r) n e in
-    let b = times_split k (pos 0 -ℤ part) p (pos s) n f in
-    let c = distribute (pos 1000 *ℤ q) (pos k *ℤ p) (pos n) in
-    let minus : pos k *ℤ (pos 0 -ℤ part) ≡ pos 0 -ℤ pos k *ℤ part = *ℤ_comm (pos k) (pos 0 -ℤ part) ∙ distribute_minus (pos 0) part (pos k) ∙ omega (arith, ints, *ℤ_comm (pos k) part) in
-    let all : pos 1000 *ℤ x -ℤ pos k *ℤ part ≡ (pos 1000 *ℤ q +ℤ pos k *ℤ p) *ℤ pos n +ℤ pos (1000 * r + k * s) = omega (arith, ints) in
-    rw all (floor_more (pos 1000 *ℤ q +ℤ pos k *ℤ p) (pos (1000 * r + k * s)) n some)
+-- the difference of a number in thousandths and a part of another, where the part is the whole of it
+pub behind_one : (k : ℕ) (x part : ℤ) (n : ℕ) → k ≡ 1000 → floor_of (pos 1000 *ℤ x -ℤ pos k *ℤ part) n ≡ floor_of (pos 1000 *ℤ (x -ℤ part)) n
+behind_one k x part n e = rw e (ap (λ t. floor_of t n) (sym (spread 1000 x part)))
+
+-- and where it is as many as the bottom
+pub behind_same : (k : ℕ) (x part : ℤ) (n : ℕ) → k ≡ n → 0 < n → floor_of (pos 1000 *ℤ x) n -ℤ part ≡ floor_of (pos 1000 *ℤ x -ℤ pos k *ℤ part) n
+behind_same k x part n e some =
+    let d = distribute_minus (pos 0) part (pos n) in
+    let m = *ℤ_comm part (pos n) in
+    let t : (pos 0 -ℤ part) *ℤ pos n +ℤ pos 1000 *ℤ x ≡ pos 1000 *ℤ x -ℤ pos n *ℤ part = omega (arith, ints, d, m) in
+    let f : floor_of (pos 1000 *ℤ x -ℤ pos n *ℤ part) n ≡ (pos 0 -ℤ part) +ℤ floor_of (pos 1000 *ℤ x) n = ap (λ s. floor_of s n) (sym t) ∙ floor_more (pos 0 -ℤ part) (pos 1000 *ℤ x) n some in
+    rw e (omega (arith, ints, f))
 
 -- times a coefficient
 pub times_small : (k : ℕ) (q : ℤ) (m : ℕ) → k ≤ 1000 → unsigned_abs q * 707 ≤ m → unsigned_abs (pos k *ℤ q) * 707 ≤ 1000 * m
@@ -56,17 +59,17 @@ pub one_less : (x q r : ℤ) (n : ℕ) → q *ℤ pos n +ℤ r ≡ x → (q -ℤ
 one_less x q r n e = let d = distribute_minus q (pos 1) (pos n) in omega (arith, ints, d, e)
 
 -- how large a quotient is
-pub split_quotient : (x q r : ℤ) (n : ℕ) → 707 ≤ n → q *ℤ pos n +ℤ r ≡ x → unsigned_abs r < n → unsigned_abs x < 2 ^ 62 → unsigned_abs q * 707 ≤ unsigned_abs x + n
+pub split_quotient : (x q r : ℤ) (n : ℕ) → 707 ≤ n → q *ℤ pos n +ℤ r ≡ x → unsigned_abs r < n → unsigned_abs x < 2 ^ 63 → unsigned_abs q * 707 ≤ unsigned_abs x + n
 split_quotient x q r n least e few small =
     let m : unsigned_abs (q *ℤ pos n) ≡ unsigned_abs q * n = unsigned_abs-mul q (pos n) in
     let k : unsigned_abs q * 707 ≤ unsigned_abs q * n = mul-le-mul (omega arith) least in
     omega (arith, ints, m, k, e, few)
 
--- the sum of what the parts give fits 64 bits
-pub behind_fits : (q u : ℤ) (a b g : ℕ) → unsigned_abs q * 707 ≤ a + 2000 → unsigned_abs u * 707 ≤ 1000 * (b + 2000) → a ≤ 740 * hundredth → b ≤ 100 * hundredth → g ≤ 4000000
-    → FitsSigned w64 (pos 1000 *ℤ q +ℤ u +ℤ pos g)
-behind_fits q u a b g near far small low few =
-    summed q u g (omega (arith, near, small)) (omega (arith, far, low)) few
-  where
-    summed : (q u : ℤ) (g : ℕ) → unsigned_abs q ≤ 6033800000000000 → unsigned_abs u ≤ 815400000000000000 → g ≤ 4000000 → FitsSigned w64 (pos 1000 *ℤ q +ℤ u +ℤ pos g)
-    summed q u g h k few = omega (arith, ints, h, k, few)
+-- what the parts of a quotient give fits 64 bits
+pub over_fits : (k : ℕ) (x q : ℤ) (r n : ℕ) → k ≤ 1000 → 707 ≤ n → unsigned_abs q * 707 ≤ unsigned_abs x + 2000 → r ≤ 2000 → unsigned_abs x ≤ 840 * hundredth
+    → FitsSigned w64 (pos k *ℤ q) × FitsSigned w64 (pos k *ℤ q +ℤ pos (k * r / n))
+over_fits k x q r n few least near rest small =
+    let m : unsigned_abs (pos k *ℤ q) * 707 ≤ 1000 * (unsigned_abs x + 2000) = times_small k q (unsigned_abs x + 2000) few near in
+    let t : k * r ≤ 1000 * 2000 = mul-le-mul few rest in
+    let d = rest_small (k * r) n (omega (arith, least)) in
+    (omega (arith, ints, m, small), omega (arith, ints, m, d, t, small))

@@ -9,3 +9,5 @@ pub mod KeptOrigins
 pub mod Rows
 pub mod KeptLayers
 pub mod Clips
+pub mod RatioLemmas
+pub mod ModeRows

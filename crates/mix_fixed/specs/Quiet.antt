@@ -44,9 +44,9 @@ pub record IsBelow (most : Most) (s : Scaled) : Type 0 where
   pub whole : s.whole ≤ℤ most.whole
   pub rest : s.rest ≤ℤ most.rest
 
--- a sample times both parts of its factor is small; where all factors are whole, there is no rest
+-- a sample has 32 bits, and is small times the whole of its factor; where all factors are whole, there is no rest
 pub record IsQuiet (exact : Bool) (coded : List ℤ) (s : Scaled) : Type 0 where
   pub place : s.place < length coded
   pub whole : unsigned_abs (slice_index_or coded s.place (pos 0)) * unsigned_abs s.whole ≤ 2 ^ 59
-  pub rest : unsigned_abs (slice_index_or coded s.place (pos 0)) * unsigned_abs s.rest ≤ 2 ^ 59
+  pub short : unsigned_abs (slice_index_or coded s.place (pos 0)) ≤ 2 ^ 31
   pub no_rest : IsTrue exact → s.rest ≡ pos 0

@@ -1,5 +1,5 @@
 -- What is sent, with its factors in units of 1/2^28, where 2^28 / 10^12 is 2^16 / 5^12; and what that gives of the coded samples.
-use Rattle.std.specs.Prelude.{ℕ, ◌+◌, ◌*◌, ◌/◌, ◌%◌, List, ℤ, pos, ◌+ℤ◌, ◌*ℤ◌, slice_index_or}
+use Rattle.std.specs.Prelude.{ℕ, ◌+◌, ◌*◌, ◌/◌, ◌%◌, ◌^◌, List, ℤ, pos, ◌+ℤ◌, ◌*ℤ◌, slice_index_or}
 use Rattle.spec_demix.specs.Floor.{floor_of}
 use Rattle.spec_demix.specs.declared.Side.{Side}
 use Rattle.spec_demix.specs.declared.Tops.{Tops}
@@ -19,8 +19,12 @@ whole_of factor = factor / 244140625 * 65536 + factor % 244140625 * 65536 / 2441
 abbrev pub rest_of : ℕ → ℕ
 rest_of factor = factor % 244140625 * 65536 % 244140625
 
+-- the same in parts of a unit over 2^63, rounded up
+abbrev pub fraction_of : ℕ → ℕ
+fraction_of factor = (rest_of factor * 2 ^ 63 + 244140624) / 244140625
+
 abbrev pub scaled_of : Sent → Scaled
-scaled_of sent = record { place = sent.place; whole = pos (whole_of sent.factor); rest = pos (rest_of sent.factor) }
+scaled_of sent = record { place = sent.place; whole = pos (whole_of sent.factor); rest = pos (fraction_of sent.factor) }
 
 abbrev pub scaled_side : SentSide → ScaledSide
 scaled_side sent = record {
@@ -48,8 +52,9 @@ scaled_bed sent = record {
 
 -- ---- the channels in units
 
+-- the floor of what the factor gives: for samples of 32 bits 2^31 makes up for the rounding
 abbrev pub scale : ℤ → ℤ → ℤ → ℤ
-scale y whole rest = y *ℤ whole +ℤ floor_of (y *ℤ rest) 244140625
+scale y whole rest = y *ℤ whole +ℤ floor_of (y *ℤ rest +ℤ pos (2 ^ 31)) (2 ^ 63)
 
 abbrev pub units_by : List ℤ → Scaled → ℤ
 units_by coded s = scale (slice_index_or coded s.place (pos 0)) s.whole s.rest

@@ -13,11 +13,20 @@ macro_rules! row {
         // A caller's count of channels leaves few layouts, and the compiler needs to keep no other.
         if $out.len() == $n {
             let row: [i128; $n] = [$($channel),*];
-            $out.copy_from_slice(&row);
-        } else {
-            unreachable!();
+            put(&row, $out);
         }
     }};
+}
+
+/// Writes a row of channels, one by one: a row whose place is never asked for stays in registers.
+#[inline(always)]
+fn put(row: &[i128], out: &mut [i128])
+    requires { length row.now ≡ length out.old }
+    ensures { out.new ≡ row.now }
+{
+    for i in 0..row.len() {
+        out[i] = row[i];
+    }
 }
 
 /// The channels of a layout in the order of a WAV file.

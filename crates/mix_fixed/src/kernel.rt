@@ -1,6 +1,6 @@
 //! The kernel, which demixes a scalable element in whole units of 1/2^28.
 
-ghost use Rattle.std.specs.Prelude.{◌≡◌, ◌≢◌, ◌+◌, ◌*◌, ◌^◌, ◌<◌, ◌≤◌, ℕ, All, IsTrue, length, map, take, unsigned_abs};
+ghost use Rattle.std.specs.Prelude.{◌≡◌, ◌≢◌, ◌+◌, ◌*◌, ◌^◌, ◌<◌, ◌≤◌, ◌≤ℤ◌, ◌⊎◌, ℕ, All, IsTrue, length, map, pos, take, unsigned_abs};
 ghost use Rattle.std.specs.List.{AllZip};
 ghost use Rattle.spec_gains.specs.Modes.{coefficients_of, AreBounded, IsMode};
 ghost use Rattle.spec_layouts.specs.Layouts.{channels};
@@ -121,6 +121,18 @@ fn are_short(coded: &[i64]) -> bool
     coded.iter().all(|y| y.unsigned_abs() <= 0x100_0000)
 }
 
+/// Whether 64 bits hold each sample in units: no channel is made louder, or samples are short.
+#[inline(always)]
+fn are_held(most: Most, coded: &[i64]) -> bool
+    ensures { IsTrue result → (most.whole ≤ℤ pos (2 ^ 28)) ⊎ AreShort coded.now }
+{
+    if most.is_calm() {
+        true
+    } else {
+        are_short(coded)
+    }
+}
+
 /// Writes the target's channels, in 64 bits where those hold every channel.
 fn write<const C: usize>(
     layout: Layout,
@@ -133,6 +145,7 @@ fn write<const C: usize>(
 )
     requires speakers { layout ≢ Layout.Binaural }
     requires count { C ≡ length (channels layout) }
+    requires known { IsMode params.mode }
     requires mode { AreBounded (coefficients_of params.mode) }
     requires weight { params.weight ≤ 5000 }
     requires within { AreWithin (length coded.now) origins.now.sent }
@@ -142,9 +155,7 @@ fn write<const C: usize>(
 {
     if most.is_whole() {
         write_narrow::<C, true>(layout, origins, scaled, params, coded, out);
-    } else if most.is_calm() {
-        write_narrow::<C, false>(layout, origins, scaled, params, coded, out);
-    } else if are_short(coded) {
+    } else if are_held(most, coded) {
         write_narrow::<C, false>(layout, origins, scaled, params, coded, out);
     } else {
         write_wide(layout, origins, params, coded, out);
@@ -152,6 +163,7 @@ fn write<const C: usize>(
 }
 
 /// Writes the target's channels by way of 64 bits.
+#[inline(always)]
 fn write_narrow<const C: usize, const PLAIN: bool>(
     layout: Layout,
     origins: &Origins,
@@ -162,6 +174,7 @@ fn write_narrow<const C: usize, const PLAIN: bool>(
 )
     requires speakers { layout ≢ Layout.Binaural }
     requires count { C ≡ length (channels layout) }
+    requires known { IsMode params.mode }
     requires mode { AreBounded (coefficients_of params.mode) }
     requires weight { params.weight ≤ 5000 }
     requires scaled { scaled.now ≡ scaled_bed origins.now.sent }

@@ -8,6 +8,8 @@ mod kernel;
 mod narrow;
 mod origins;
 mod output;
+mod pairs;
+mod ratios;
 mod samples;
 mod scaled;
 mod steps;

@@ -1,8 +1,10 @@
 //! Gains and the last rounding of values in units of 1/2^28.
 
-ghost use Rattle.std.specs.Prelude.{◌≡◌, ◌-◌, ◌^◌, ◌<◌, ◌≤◌, pos, ◌*ℤ◌, unsigned_abs};
+ghost use Rattle.std.specs.Prelude.{◌≡◌, ◌-◌, ◌^◌, ◌<◌, ◌≤◌, pos, ◌*ℤ◌, ◌-ℤ◌, ◌<ℤ◌, ◌≤ℤ◌, neg_ℤ, unsigned_abs};
 ghost use Rattle.spec_demix.specs.Floor.{floor_of};
 ghost use Rattle.spec_demix.specs.Rounding.{clipped, rounded};
+
+use crate::floors::high_word;
 
 /// The gain of 0 dB.
 const ONE: u64 = 1_000_000_000_000;
@@ -35,11 +37,28 @@ fn half_range(depth: u8) -> u64
 }
 
 /// What a number has above its low 64 bits.
-#[inline]
-fn high_word(x: i128) -> i128
+#[inline(always)]
+fn high_half(x: i128) -> i64
     ensures { result ≡ floor_of x (2 ^ 64) }
 {
-    x >> 64
+    high_word(x) as i64
+}
+
+/// The sample that values beyond the samples are held to: the lowest, where what they lie above the lowest that is rounded to
+/// a sample is negative, and the highest. Loud sound is rare, so this stands apart from the way of the others.
+#[cold]
+#[inline(never)]
+fn end_of(high: i64, half: u64) -> i32
+    requires some { 1 ≤ half }
+    requires small { half ≤ 2 ^ 31 }
+    ensures low { high <ℤ pos 0 → result ≡ neg_ℤ (pos half) }
+    ensures high { pos 0 ≤ℤ high → result ≡ pos half -ℤ pos 1 }
+{
+    if high < 0 {
+        -(half as i64) as i32
+    } else {
+        (half as i64 - 1) as i32
+    }
 }
 
 /// The whole number nearest to a value in units of 1/2^28, halves upwards, held to the samples of a depth: from -2^(depth-1)
@@ -56,12 +75,10 @@ pub fn round_clip(value: i128, depth: u8) -> i32
     let half = half_range(depth);
     // how far the value lies above the lowest that is rounded to a sample: one test in place of two
     let above = value + i128::from(0x800_0000 + half * 0x1000_0000);
-    let high = high_word(above);
+    let high = high_half(above);
     if high == 0 && (above as u64) < half * 0x2000_0000 {
         ((above as u64 / 0x1000_0000) as i64 - half as i64) as i32
-    } else if value < 0 {
-        -(half as i64) as i32
     } else {
-        (half as i64 - 1) as i32
+        end_of(high, half)
     }
 }

@@ -1,6 +1,6 @@
 //! What is sent, with its factors in units of 1/2^28: made once, so that a tick takes no division by 10^12.
 
-ghost use Rattle.std.specs.Prelude.{◌≡◌, ◌^◌, ◌≤ℤ◌, IsTrue, pos};
+ghost use Rattle.std.specs.Prelude.{◌≡◌, ◌+◌, ◌*◌, ◌/◌, ◌^◌, ◌<◌, ◌≤ℤ◌, IsTrue, pos};
 ghost use Rattle.mix_fixed.specs.Scaled.{scaled_of, scaled_side, scaled_tops, scaled_bed};
 ghost use Rattle.mix_fixed.specs.Quiet.{OfSides, OfTops, OfBed, IsBelow};
 
@@ -16,7 +16,7 @@ pub(crate) struct Scaled {
     pub(crate) place: usize,
     /// How many whole units its factor has.
     pub(crate) whole: i64,
-    /// What is left of the factor, in parts of a unit over 5^12.
+    /// What is left of the factor, in parts of a unit over 2^63, rounded up.
     pub(crate) rest: i64,
 }
 
@@ -59,6 +59,14 @@ pub(crate) struct Most {
     rest: i64,
 }
 
+/// A number of parts over 5^12 in parts over 2^63, rounded up.
+fn fraction(parts: u64) -> i64
+    requires { parts < 244140625 }
+    ensures { result ≡ pos ((parts * 2 ^ 63 + 244140624) / 244140625) }
+{
+    ((u128::from(parts) * 0x8000_0000_0000_0000 + 244_140_624) / 244_140_625) as i64
+}
+
 fn scale_sent(sent: Sent) -> Scaled
     ensures { result ≡ scaled_of sent }
 {
@@ -66,7 +74,7 @@ fn scale_sent(sent: Sent) -> Scaled
     Scaled {
         place: sent.place,
         whole: (sent.factor / FIFTHS * 0x1_0000 + parts / FIFTHS) as i64,
-        rest: (parts % FIFTHS) as i64,
+        rest: fraction(parts % FIFTHS),
     }
 }
 

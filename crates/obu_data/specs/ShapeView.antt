@@ -12,9 +12,9 @@ fixed_or_none None = record { duration = 0; constant_subblock_duration = 0; dura
 fixed_or_none (Some fixed) = fixed
 
 abbrev pub view_shape : Shape → fields.Shape
-view_shape (Gain timing) = fields.MixGain timing.rate (option_map view_fixed timing.fixed)
-view_shape (Demix timing) = fields.Demixing timing.rate (fixed_or_none (option_map view_fixed timing.fixed))
-view_shape (Recon timing layers recon_flags) = fields.ReconGain timing.rate (fixed_or_none (option_map view_fixed timing.fixed)) layers recon_flags
+view_shape (Gain cadence) = fields.MixGain cadence.rate (option_map view_fixed cadence.fixed)
+view_shape (Demix cadence) = fields.Demixing cadence.rate (fixed_or_none (option_map view_fixed cadence.fixed))
+view_shape (Recon cadence layers recon_flags) = fields.ReconGain cadence.rate (fixed_or_none (option_map view_fixed cadence.fixed)) layers recon_flags
 
 -- blocks of a frame each, and not of nothing
 abbrev pub LastsAFrame : Option FixedFields → Type 0
@@ -24,6 +24,6 @@ LastsAFrame (Some fixed) = (0 < fixed.duration) × (fixed.constant_subblock_dura
 -- A shape as it stands in an admitted descriptor: demixing and recon gains come once a frame, and there are 1 to 6 layers
 -- with a flag each.
 abbrev pub MayDefine : Shape → Type 0
-MayDefine (Gain timing) = Unit {0}
-MayDefine (Demix timing) = LastsAFrame (option_map view_fixed timing.fixed)
-MayDefine (Recon timing layers recon_flags) = LastsAFrame (option_map view_fixed timing.fixed) × (1 ≤ layers) × (layers ≤ 6) × (recon_flags < 2 ^ layers)
+MayDefine (Gain cadence) = Unit {0}
+MayDefine (Demix cadence) = LastsAFrame (option_map view_fixed cadence.fixed)
+MayDefine (Recon cadence layers recon_flags) = LastsAFrame (option_map view_fixed cadence.fixed) × (1 ≤ layers) × (layers ≤ 6) × (recon_flags < 2 ^ layers)

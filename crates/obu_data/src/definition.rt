@@ -1,17 +1,16 @@
 //! The definition of a parameter (IAMF 1.0.0, "Parameter Definition Syntax and Semantics").
 
-use obu_descriptors::Timing;
+use obu_descriptors::Cadence;
 
-/// What the definitions of one parameter have to agree on: its kind and its timing. The id in the timing is no part of it,
-/// and default values are in no shape.
+/// What the definitions of one parameter have to agree on: its kind and its timing. Default values are in no shape.
 #[derive(Debug, Drop)]
 pub enum Shape {
     /// Mix gains.
-    Gain(Timing),
+    Gain(Cadence),
     /// Demixing.
-    Demix(Timing),
+    Demix(Cadence),
     /// Recon gains: the number of the element's layers, and their recon flags, bit i (0 the least) for layer i.
-    Recon(Timing, u8, u8),
+    Recon(Cadence, u8, u8),
 }
 
 /// A parameter and its shape.

@@ -6,7 +6,7 @@ ghost use Rattle.obu_data.specs.ShapeView.{view_shape, MayDefine};
 ghost use Rattle.obu_data.specs.Adding.{Finds, Adds};
 
 use crate::definition::{Definition, Shape};
-use obu_descriptors::{Fixed, Timing};
+use obu_descriptors::{Cadence, Fixed};
 use std::alloc::{AllocError, Global};
 use std::collections::BTreeMap;
 use std::marker::Model;
@@ -54,8 +54,8 @@ fn same_fixed(one: &Fixed, other: &Fixed) -> bool
         && one.durations.as_slice() == other.durations.as_slice()
 }
 
-/// Whether two timings are the same but for the id.
-fn same_timing(one: &Timing, other: &Timing) -> bool
+/// Whether two cadences are the same.
+fn same_cadence(one: &Cadence, other: &Cadence) -> bool
     ensures { (result ≡ true) ↔ ((one.now.rate ≡ other.now.rate) × (option_map view_fixed one.now.fixed ≡ option_map view_fixed other.now.fixed)) }
 {
     if one.rate != other.rate {
@@ -75,10 +75,10 @@ fn same_shape(one: &Shape, other: &Shape) -> bool
     ensures { (result ≡ true) ↔ (view_shape one.now ≡ view_shape other.now) }
 {
     match (one, other) {
-        (Shape::Gain(one), Shape::Gain(other)) => same_timing(one, other),
-        (Shape::Demix(one), Shape::Demix(other)) => same_timing(one, other),
+        (Shape::Gain(one), Shape::Gain(other)) => same_cadence(one, other),
+        (Shape::Demix(one), Shape::Demix(other)) => same_cadence(one, other),
         (Shape::Recon(one, layers, flags), Shape::Recon(other, other_layers, other_flags)) => {
-            same_timing(one, other) && *layers == *other_layers && *flags == *other_flags
+            same_cadence(one, other) && *layers == *other_layers && *flags == *other_flags
         }
         _ => false,
     }

@@ -97,7 +97,7 @@ fn content_of<'a>(
     ensures known { IfOk result (λ content. IsKnown content) }
 {
     match shape {
-        Shape::Gain(timing) => match &timing.fixed {
+        Shape::Gain(cadence) => match &cadence.fixed {
             Some(fixed) => defined_gains_of(alloc, view, fixed),
             None => own_gains_of(alloc, view),
         },

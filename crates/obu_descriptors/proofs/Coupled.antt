@@ -4,7 +4,8 @@ use Rattle.std.specs.Prelude.{replicate, slice_get}
 use Rattle.std.proofs.lemmas.List.{append-nil, length-replicate}
 use Rattle.spec_descriptors.specs.Layers.{LayerFields}
 use Rattle.spec_descriptors.specs.AudioElement.{coupled_first}
-use Rattle.spec_descriptors.proofs.ElementCounts.{Each, IsCoupled}
+use Rattle.spec_descriptors.proofs.OnEach.{Each}
+use Rattle.spec_descriptors.proofs.ElementCounts.{IsCoupled}
 use Rattle.obu_descriptors.specs.declared.layer.Layer.{Layer}
 use Rattle.obu_descriptors.specs.Channels.{AreCoupled}
 

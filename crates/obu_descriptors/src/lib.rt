@@ -25,7 +25,7 @@ pub use reading_back::{
 };
 pub use sequence_header::SequenceHeader;
 pub use spec_descriptors::DescriptorFault;
-pub use timing::{Fixed, Timing, put_timing};
+pub use timing::{Cadence, Fixed, Timing, put_timing};
 
 /// Why an audio element is not read.
 pub type DescriptorError = iamf_bits::Unread<DescriptorFault>;

@@ -1,6 +1,6 @@
 //! The timing of a parameter definition (IAMF 1.0.0, "Parameter Definition Syntax and Semantics").
 
-ghost use Rattle.std.specs.Prelude.{◌≡◌, [], ◌^◌, ◌++◌, OnOk, IfOk};
+ghost use Rattle.std.specs.Prelude.{◌≡◌, [], ◌^◌, ◌++◌, OnOk, IfOk, option_map};
 ghost use Rattle.spec_bits.specs.Cursor.{IsOnByte};
 ghost use Rattle.spec_syntax.specs.Syntax.{each};
 ghost use Rattle.spec_syntax.specs.Reading.{read};
@@ -41,6 +41,15 @@ pub struct Timing {
     pub fixed: Option<Fixed>,
 }
 
+/// How fast a parameter ticks and how long its blocks last, whatever its id.
+#[derive(Debug, Drop)]
+pub struct Cadence {
+    /// `parameter_rate`, in ticks a second.
+    pub rate: u32,
+    /// `None` for `param_definition_mode` 1, where each block has its own durations.
+    pub fixed: Option<Fixed>,
+}
+
 impl Fixed {
     /// A copy. An error only where memory runs out.
     pub fn try_clone(&self, alloc: Global) -> Result<Fixed, AllocError>
@@ -56,16 +65,33 @@ impl Fixed {
 }
 
 impl Timing {
-    /// A copy. An error only where memory runs out.
-    pub fn try_clone(&self, alloc: Global) -> Result<Timing, AllocError>
-        ensures { IfOk result (λ t. view_timing t ≡ view_timing self.now) }
+    /// A copy of all but the id. An error only where memory runs out.
+    pub fn cadence(&self, alloc: Global) -> Result<Cadence, AllocError>
+        ensures rate { IfOk result (λ c. c.rate ≡ self.now.rate) }
+        ensures fixed { IfOk result (λ c. option_map view_fixed c.fixed ≡ option_map view_fixed self.now.fixed) }
     {
         let fixed = match &self.fixed {
             Some(fixed) => Some(fixed.try_clone(alloc)?),
             None => None,
         };
-        Ok(Timing {
-            id: self.id,
+        Ok(Cadence {
+            rate: self.rate,
+            fixed,
+        })
+    }
+}
+
+impl Cadence {
+    /// A copy. An error only where memory runs out.
+    pub fn try_clone(&self, alloc: Global) -> Result<Cadence, AllocError>
+        ensures rate { IfOk result (λ c. c.rate ≡ self.now.rate) }
+        ensures fixed { IfOk result (λ c. option_map view_fixed c.fixed ≡ option_map view_fixed self.now.fixed) }
+    {
+        let fixed = match &self.fixed {
+            Some(fixed) => Some(fixed.try_clone(alloc)?),
+            None => None,
+        };
+        Ok(Cadence {
             rate: self.rate,
             fixed,
         })

@@ -5,7 +5,7 @@ ghost use Rattle.obu_descriptors.specs.TimingView.{view_fixed};
 ghost use Rattle.obu_data.specs.ShapeView.{LastsAFrame, MayDefine};
 
 use obu_data::*;
-use obu_descriptors::{Fixed, Timing};
+use obu_descriptors::{Cadence, Fixed};
 use obu_header::{ObuHead, ObuView, Trim};
 use smallvec::SmallVec;
 use spec_bits::FieldFault;
@@ -14,20 +14,15 @@ use std::alloc::{AllocError, Global};
 use std::test::Fail;
 
 // A timing whose blocks have their own.
-fn own_timing(rate: u32) -> Timing {
-    Timing {
-        id: 0,
-        rate,
-        fixed: None,
-    }
+fn own_cadence(rate: u32) -> Cadence {
+    Cadence { rate, fixed: None }
 }
 
 // A timing of one subblock a frame.
-fn frame_timing(alloc: Global, rate: u32) -> Timing
+fn frame_cadence(alloc: Global, rate: u32) -> Cadence
     ensures { LastsAFrame (option_map view_fixed result.fixed) }
 {
-    Timing {
-        id: 0,
+    Cadence {
         rate,
         fixed: Some(Fixed {
             duration: 64,
@@ -38,9 +33,8 @@ fn frame_timing(alloc: Global, rate: u32) -> Timing
 }
 
 // Eight ticks in subblocks of three, or in subblocks of these durations where there are any.
-fn eight_ticks(alloc: Global, durations: &[u32]) -> Result<Timing, AllocError> {
-    Ok(Timing {
-        id: 0,
+fn eight_ticks(alloc: Global, durations: &[u32]) -> Result<Cadence, AllocError> {
+    Ok(Cadence {
         rate: 48000,
         fixed: Some(Fixed {
             duration: 8,
@@ -54,11 +48,11 @@ fn eight_ticks(alloc: Global, durations: &[u32]) -> Result<Timing, AllocError> {
 // 104 for the second and the third of three layers.
 fn definitions(alloc: Global) -> Result<Definitions, Fail> {
     let mut all = Definitions::new(alloc);
-    all.add(100, Shape::Gain(own_timing(48000)))?;
+    all.add(100, Shape::Gain(own_cadence(48000)))?;
     all.add(101, Shape::Gain(eight_ticks(alloc, &[])?))?;
-    all.add(102, Shape::Demix(frame_timing(alloc, 48000)))?;
+    all.add(102, Shape::Demix(frame_cadence(alloc, 48000)))?;
     all.add(103, Shape::Gain(eight_ticks(alloc, &[5, 3])?))?;
-    all.add(104, Shape::Recon(frame_timing(alloc, 48000), 3, 6))?;
+    all.add(104, Shape::Recon(frame_cadence(alloc, 48000), 3, 6))?;
     Ok(all)
 }
 
@@ -249,26 +243,26 @@ fn another_shape_clashes(rt: HostRuntime) -> Result<(), Fail> {
     let five_and_three = eight_ticks(alloc, &[5, 3])?;
     let three_and_five = eight_ticks(alloc, &[3, 5])?;
     let found = [
-        clashes(&mut all, 100, Shape::Gain(own_timing(48000))),
+        clashes(&mut all, 100, Shape::Gain(own_cadence(48000))),
         clashes(&mut all, 103, Shape::Gain(five_and_three)),
         clashes(
             &mut all,
             104,
-            Shape::Recon(frame_timing(alloc, 48000), 3, 6),
+            Shape::Recon(frame_cadence(alloc, 48000), 3, 6),
         ),
-        clashes(&mut all, 100, Shape::Gain(own_timing(44100))),
-        clashes(&mut all, 100, Shape::Gain(frame_timing(alloc, 48000))),
+        clashes(&mut all, 100, Shape::Gain(own_cadence(44100))),
+        clashes(&mut all, 100, Shape::Gain(frame_cadence(alloc, 48000))),
         clashes(&mut all, 103, Shape::Gain(three_and_five)),
-        clashes(&mut all, 102, Shape::Gain(frame_timing(alloc, 48000))),
+        clashes(&mut all, 102, Shape::Gain(frame_cadence(alloc, 48000))),
         clashes(
             &mut all,
             104,
-            Shape::Recon(frame_timing(alloc, 48000), 3, 4),
+            Shape::Recon(frame_cadence(alloc, 48000), 3, 4),
         ),
         clashes(
             &mut all,
             104,
-            Shape::Recon(frame_timing(alloc, 48000), 4, 6),
+            Shape::Recon(frame_cadence(alloc, 48000), 4, 6),
         ),
     ];
     assert_eq!(rt;
@@ -281,7 +275,7 @@ fn another_shape_clashes(rt: HostRuntime) -> Result<(), Fail> {
 #[test]
 fn a_clash_changes_nothing(rt: HostRuntime) -> Result<(), Fail> {
     let mut all = definitions(rt.alloc())?;
-    assert!(rt; clashes(&mut all, 102, Shape::Gain(own_timing(48000))));
+    assert!(rt; clashes(&mut all, 102, Shape::Gain(own_cadence(48000))));
     let found = shown(rt.alloc(), &all, b"\x66\x00")?;
     assert!(rt;
         found.as_str() == "Ok(ParameterBlock { id: 102, content: Demix { mode: 0 }, tail: [] })"

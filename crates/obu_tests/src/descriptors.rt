@@ -278,14 +278,14 @@ fn codec_configs_are_written_shortest(rt: HostRuntime) -> Result<(), Fail> {
     Ok(())
 }
 
-/// A copy of the timing, as text.
+/// A copy of the timing's cadence, as text.
 fn copied(alloc: Global, timing: &Timing) -> Result<String, AllocError> {
-    let copy = timing.try_clone(alloc)?;
+    let copy = timing.cadence(alloc)?.try_clone(alloc)?;
     format!(in alloc; "{copy:?}")
 }
 
 #[test]
-fn a_timing_is_copied(rt: HostRuntime) -> Result<(), Fail> {
+fn a_cadence_is_copied(rt: HostRuntime) -> Result<(), Fail> {
     let durations = SmallVec::from_slice(rt.alloc(), &[3, 5, 1, 1, 2])?;
     let timing = Timing {
         id: 100,
@@ -299,7 +299,7 @@ fn a_timing_is_copied(rt: HostRuntime) -> Result<(), Fail> {
     let text = copied(rt.alloc(), &timing)?;
     assert!(rt;
         text.as_str()
-            == "Timing { id: 100, rate: 48000, fixed: Some(Fixed { duration: 12, constant: 0, durations: [3, 5, 1, 1, 2] }) }"
+            == "Cadence { rate: 48000, fixed: Some(Fixed { duration: 12, constant: 0, durations: [3, 5, 1, 1, 2] }) }"
     );
     Ok(())
 }

@@ -4,18 +4,18 @@ use Rattle.std.specs.Prelude.{is_some, None}
 use Rattle.std.proofs.lemmas.List.{map-append}
 use Rattle.spec_obu.specs.declared.obu_type.ObuType.{ObuType}
 use Rattle.spec_obu.specs.declared.obu_type.ObuType.TheVariants as obu_type
-use Rattle.spec_obu.specs.Kinds.{obu_type_of, is_audio_frame, is_reserved}
+use Rattle.spec_obu.specs.Kinds.{obu_type_of, is_audio_frame}
 use Rattle.spec_obu.specs.Kinds as kinds
-use Rattle.spec_obu.specs.Header.{Head, is_copy}
-use Rattle.spec_values.specs.Content.{Content, Context, Header, Codec, Element, Mix, Block, Frame, Nothing, Says}
+use Rattle.spec_values.specs.Content.{Context}
 use Rattle.spec_values.specs.Value.{ObuValue, Spells}
 use Rattle.spec_rules.specs.Role.{Role, Ignored}
 use Rattle.spec_rules.specs.Units as units
 use Rattle.spec_rules.specs.Rules.{fault_before, fault_after}
 use Rattle.spec_rules.specs.Admitted.{type_of_role, HasNoFault}
-use Rattle.spec_sequence.specs.ValueRole.{plain_role, role_of_nothing}
+use Rattle.spec_sequence.specs.ValueRole.{plain_role}
 use Rattle.spec_sequence.specs.Reading.{roles, IsAdmissible, early_fault}
 use Rattle.spec_sequence.proofs.RedundantCopies.{early_plain}
+use Rattle.spec_sequence.proofs.AdmittedSequences.{plain_type, reserved_before, plain_copy}
 use Rattle.spec_files.specs.Body.{is_descriptor, is_data}
 use Rattle.spec_files.specs.Body as body
 use Rattle.spec_bodies.specs.Spelled.{Spelled, entry_of, obu_of, role_of, entries_of, roles_of}
@@ -28,24 +28,6 @@ abbrev pub carries : Role → Bool
 carries o = body.carries (type_of_role o)
 
 -- ---- the type of the role
-
-of_nothing : (t s : ObuType) → t ≡ s → kinds.is_reserved s ≡ true → type_of_role (role_of_nothing t) ≡ s
-of_nothing t obu_type.Reserved e h = rw e refl
-of_nothing t _ e h = absurd cc
-
-of_delimiter : (t : ObuType) → t ≡ obu_type.TemporalDelimiter → type_of_role (role_of_nothing t) ≡ obu_type.TemporalDelimiter
-of_delimiter t e = rw e refl
-
-plain_type : (context : Context) (h : Head) (c : Content) (tail payload : List ℕ) (t : ObuType) → obu_type_of h.kind ≡ t → Says context h.kind t c tail payload → type_of_role (plain_role h c tail) ≡ t
-plain_type context h (Header x) tail payload obu_type.SequenceHeader e says = refl
-plain_type context h (Codec x) tail payload obu_type.CodecConfig e says = refl
-plain_type context h (Element x) tail payload obu_type.AudioElement e says = refl
-plain_type context h (Mix x) tail payload obu_type.MixPresentation e says = refl
-plain_type context h (Block x) tail payload obu_type.ParameterBlock e says = refl
-plain_type context h Nothing tail payload obu_type.TemporalDelimiter e says = of_delimiter (obu_type_of h.kind) e
-plain_type context h (Frame x) tail payload obu_type.AudioFrame e says = refl
-plain_type context h Nothing tail payload obu_type.Reserved e says = of_nothing (obu_type_of h.kind) obu_type.Reserved e refl
-plain_type context h _ tail payload _ e says = absurd says
 
 pub typed : (context : Context) (o : ObuValue) (payload bytes : List ℕ) → Spells context o payload bytes → o.head.redundant ≡ false → type_of_role (plain_role o.head o.content o.tail) ≡ obu_type_of o.head.kind
 typed context o payload bytes s plain = plain_type context o.head o.content o.tail payload (obu_type_of o.head.kind) refl s.payload_is.says
@@ -77,13 +59,6 @@ roles_are (o ∷ os) = ap (λ (l : List Role). role_of o ∷ l) (roles_are os)
 
 pub roles_push : (os : List Spelled) (o : Spelled) → roles_of (os ++ o ∷ []) ≡ roles_of os ++ role_of o ∷ []
 roles_push os o = map-append role_of os (o ∷ [])
-
-reserved_before : (l : List Role) → fault_before l obu_type.Reserved ≡ None
-unfolding fault_before
-reserved_before l = refl
-
-plain_copy : (h : Head) → h.redundant ≡ false → is_copy h ≡ false
-plain_copy h plain = rw plain refl
 
 -- before the payload the same is tested, by the type of the role
 pub early_is : (past : List Spelled) (context : Context) (o : Spelled) → Spells context o.value o.payload o.bytes → o.value.head.redundant ≡ false

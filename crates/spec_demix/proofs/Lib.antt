@@ -17,3 +17,4 @@ pub mod Layered
 pub mod Fractions
 pub mod Reading
 pub mod Factors
+pub mod SceneOutputs

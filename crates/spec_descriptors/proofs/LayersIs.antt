@@ -9,7 +9,7 @@ use Rattle.spec_layouts.specs.declared.Layout.{Layout}
 use Rattle.spec_layouts.specs.declared.Layout.TheVariants.{Mono}
 use Rattle.spec_layouts.specs.Layouts.{layout_of, code_of}
 use Rattle.spec_layouts.proofs.Codes.{only_code}
-use Rattle.spec_descriptors.specs.Layers.{LayerFields, is_refused, layer_at, layer_of, layer_after, layer_in, last_layout, output_gain, scalable_config}
+use Rattle.spec_descriptors.specs.Layers.{LayerFields, is_refused, are_other, layer_at, layer_of, layer_after, layer_in, last_layout, output_gain, scalable_config}
 use Rattle.spec_descriptors.specs.ElementFields.{flag_of, counts_fields, layer_fields, scalable_fields}
 
 flag_is : (n : ℕ) → n < 2 → flag_of (n == 1) ≡ n
@@ -19,11 +19,11 @@ flag_is n small = go (n == 1) refl
     go true t = rw t (sym (eqb-true n 1 t))
     go false t = rw t (omega (arith, eqb-false n 1 t, small))
 
--- the fields after a layout
-abbrev AfterLayout : Layout → List FieldValue → LayerFields → Type 0
-AfterLayout now xs r = (r.loudspeaker_layout ≡ now) × (xs ≡ counts_fields r)
+-- the fields after a layout, and that the counts passed
+abbrev pub AfterLayout : Option Layout → Layout → List FieldValue → LayerFields → Type 0
+AfterLayout before now xs r = (r.loudspeaker_layout ≡ now) × (xs ≡ counts_fields r) × (are_other before now r.substream_count r.coupled_substream_count ≡ false)
 
-layer_of_is : (before : Option Layout) (now : Layout) (xs : List FieldValue) (r : LayerFields) → Has (layer_of before now) xs r → AfterLayout now xs r
+pub layer_of_is : (before : Option Layout) (now : Layout) (xs : List FieldValue) (r : LayerFields) → Has (layer_of before now) xs r → AfterLayout before now xs r
 unfolding layer_of output_gain
 layer_of_is before now xs r h =
     field_step h λ has_gain ys e f p h1.
@@ -38,11 +38,11 @@ layer_of_is before now xs r h =
     field_step h7 λ reserved' ys6 e6 f6 p6 h8.
     field_step h8 λ gain ys7 e7 f7 p7 h9.
     end_step h9 λ e8 is.
-    subst (λ (y : LayerFields). AfterLayout now xs y) is (refl, rw (e, e1, e2, e3, e4, e5, e6, e7, e8, eqb-true has_gain 1 there, recon_is) refl))
+    subst (λ (y : LayerFields). AfterLayout before now xs y) is (refl, rw (e, e1, e2, e3, e4, e5, e6, e7, e8, eqb-true has_gain 1 there, recon_is) refl, p4.0))
     (λ none h6.
     end_step h6 λ e5 is.
     let flag : has_gain ≡ 0 = omega (arith, f, eqb-false has_gain 1 none) in
-    subst (λ (y : LayerFields). AfterLayout now xs y) is (refl, rw (e, e1, e2, e3, e4, e5, flag, recon_is) refl))
+    subst (λ (y : LayerFields). AfterLayout before now xs y) is (refl, rw (e, e1, e2, e3, e4, e5, flag, recon_is) refl, p4.0))
 
 -- the layout of a code that passed
 layer_at_is : (before : Option Layout) (code : ℕ) (layout : Option Layout) (xs : List FieldValue) (r : LayerFields) → layout_of code ≡ layout → is_refused before layout ≡ false

@@ -5,6 +5,10 @@ pub mod ParameterIs
 pub mod LayersIs
 pub mod AmbisonicsIs
 pub mod ElementIs
+pub mod OnEach
+pub mod ReadLayers
+pub mod ElementConfigs
+pub mod CodecNumbers
 pub mod ElementCounts
 pub mod MixGainSteps
 pub mod MixSteps

@@ -9,11 +9,7 @@ pub mod PlayedFiles
 pub mod LayerChains
 pub mod SelectedSequences
 pub mod FrameRows
-pub mod AdmittedSequences
-pub mod CompleteUnits
-pub mod FramesOfUnits
 pub mod PassedFrames
 pub mod ChannelsOfSubstreams
 pub mod FewChannels
-pub mod CodecDepths
 pub mod WholeFrames

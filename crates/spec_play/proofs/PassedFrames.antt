@@ -21,7 +21,7 @@ use Rattle.spec_rules.proofs.UnitLists.{in_unit-none}
 use Rattle.spec_rules.proofs.Lawful.{no_data-push, by_all}
 use Rattle.spec_sequence.specs.Parts.{FrameValue, first_trim}
 use Rattle.spec_play.proofs.Tests.{Each, each_both, each_like}
-use Rattle.spec_play.proofs.FramesOfUnits.{frame_of_role, frames_in, frames_in-push, streams_are, trims_are}
+use Rattle.spec_sequence.proofs.FramesOfUnits.{frame_of_role, frames_in, frames_in-push, streams_are, trims_are}
 
 -- ---- one frame
 

@@ -1,17 +1,17 @@
 -- The frames of each unit of a sequence are whole.
 use Rattle.std.proofs.Common.{◌≡◌, ℕ, ◌+◌, ◌<◌, ◌≤◌, true, eqb, List, [], ◌∷◌, length, map, get_or, refl, sym, ap, subst, ◌∙◌, inl, inr, eqb-true, arith}
-use Rattle.std.specs.Prelude.{Option, Some, None, IfSome, IsTrue, find}
+use Rattle.std.specs.Prelude.{Option, Some, None, IfSome, find}
 use Rattle.std.specs.Option.{option_map}
-use Rattle.std.specs.List.{All}
 use Rattle.std.proofs.lemmas.Bool.{cases_Bool, not-false}
 use Rattle.std.proofs.lemmas.Option.{same_Some}
-use Rattle.std.proofs.lemmas.List.Elements.{All-nil, All-cons}
-use Rattle.spec_samples.specs.Lpcm.{frame_bytes, is_depth}
+use Rattle.spec_samples.specs.Lpcm.{frame_bytes}
 use Rattle.spec_flac.specs.declared.fault.FlacFault.{FlacFault}
 use Rattle.spec_flac.specs.FirstFault.{first_fault}
 use Rattle.spec_flac.proofs.FoundFaults.{none_found}
 use Rattle.spec_descriptors.specs.CodecConfig.{CodingFields, Lpcm, Flac, CodecConfigFields}
 use Rattle.spec_descriptors.specs.AudioElement.{AudioElementFields}
+use Rattle.spec_descriptors.proofs.CodecNumbers.{HasDepth, HasNumbers}
+use Rattle.spec_descriptors.proofs.OnEach.{all_of}
 use Rattle.spec_descriptors.specs.MixPresentation.{MixElementFields, SubMixFields, MixPresentationFields}
 use Rattle.spec_descriptors.specs.MixGain.{MixGainFields}
 use Rattle.spec_values.specs.declared.fault.Fault.TheVariants as fault
@@ -27,17 +27,19 @@ use Rattle.spec_sequence.specs.ValueRole.{codec_role, role_of_codec}
 use Rattle.spec_sequence.specs.Parts.{roles_of, FrameValue, UnitValue, first_trim, unit_value, codec_configs, audio_elements, temporal_units}
 use Rattle.spec_sequence.specs.Reading.{Reads}
 use Rattle.spec_sequence.proofs.RolesOfParts.{codecs_are}
+use Rattle.spec_sequence.proofs.ReadParts.{sequence_numbers}
+use Rattle.spec_sequence.proofs.RoleNumbers.{role_length, role_depth}
 use Rattle.spec_play.specs.declared.target.Target.{Target}
 use Rattle.spec_play.specs.Mixes.{MixedElement, Rendition, no_codec, no_unit, unit_of, with_gain, mixed_element, mixed_elements, rendition, rendition_of_sub_mixes, rendition_of_mix, rendition_of, mix_of}
 use Rattle.spec_play.specs.Laws.{IsCodedBy, HasFrame, HasFramesOf, HasWholeFrames, FramesAreWhole, OneCodecConfig}
 use Rattle.spec_play.proofs.Tests.{Each, each_and, each_like, each_both, each_found}
-use Rattle.spec_play.proofs.AdmittedSequences.{sequence_admitted, sequence_ends}
-use Rattle.spec_play.proofs.CompleteUnits.{stream_there, one_codec}
-use Rattle.spec_play.proofs.FramesOfUnits.{streams_are, unit_frames, length-units, unit_at}
+use Rattle.spec_sequence.proofs.AdmittedSequences.{sequence_admitted, sequence_ends}
+use Rattle.spec_rules.proofs.CompleteUnits.{stream_there}
+use Rattle.spec_rules.proofs.OneCodec.{one_codec}
+use Rattle.spec_sequence.proofs.FramesOfUnits.{streams_are, unit_frames, length-units, unit_at}
 use Rattle.spec_play.proofs.PassedFrames.{Passes, ArePassed, frames_passed}
 use Rattle.spec_play.proofs.ChannelsOfSubstreams.{IsStream, streams_of, element_streams}
 use Rattle.spec_play.proofs.FewChannels.{IsFew, few_of_element}
-use Rattle.spec_play.proofs.CodecDepths.{HasDepth, sequence_depths}
 
 -- ---- one frame
 
@@ -100,10 +102,6 @@ has_frame s u c has p (stream, few) =
     let f = found_in (Passes (roles_of s)) p.0 (unit_value u s).frames (unit_passed s u has.admitted).all there in
     record { few = few; frame = f.frame; found = f.found; coded = coded_frame c (roles_of s) f.frame p has.codec stream f.substream f.has }
 
-all_of : {A : Type 0} (P : A → Type 0) (xs : List A) → Each P xs → All P xs
-all_of P [] h = All-nil P
-all_of P (x ∷ xs) h = All-cons P x xs h.0 (all_of P xs h.1)
-
 element_frames : (s : List ObuValue) (u : ℕ) (c : CodecConfigFields) → HasUnit s u c → Each (HasFramesOf c (unit_value u s)) (audio_elements s)
 element_frames s u c has =
     each_like (λ (e : AudioElementFields). Each (IsStream (roles_of s)) (streams_of e)) (HasFramesOf c (unit_value u s))
@@ -114,17 +112,9 @@ element_frames s u c has =
 
 -- ---- what the codec config says, and trims
 
-length_of : (id n : ℕ) (coding : CodingFields) → (codec_role id n coding).frame_length ≡ n
-length_of id n (Lpcm is_little depth rate) = refl
-length_of id n (Flac info others) = refl
-
-depth_of : (id n : ℕ) (coding : CodingFields) → HasDepth coding → IsTrue (is_depth (codec_role id n coding).depth)
-depth_of id n (Lpcm is_little depth rate) h = h
-depth_of id n (Flac info others) h = h
-
 frame_length_is : (l : List Role) (c : CodecConfigFields) → codecs l ≡ role_of_codec c ∷ [] → frame_length l ≡ c.num_samples_per_frame
 unfolding frame_length
-frame_length_is l c one = ap first_length one ∙ length_of c.codec_config_id c.num_samples_per_frame c.coding
+frame_length_is l c one = ap first_length one ∙ role_length c.codec_config_id c.num_samples_per_frame c.coding
 
 first_within : (l : List Role) (n : ℕ) (fs : List FrameValue) → frame_length l ≡ n → Each (Passes l) fs → (first_trim fs).start + (first_trim fs).end ≤ n
 first_within l n [] is all = omega arith
@@ -162,7 +152,7 @@ has_whole : (s : List ObuValue) (target : Target) (sub_mix : SubMixFields) (u : 
 has_whole s target sub_mix u w =
     let r = rendition s target sub_mix in
     record {
-      depth = depth_of r.codec.codec_config_id r.codec.num_samples_per_frame r.codec.coding w.depth;
+      depth = role_depth r.codec.codec_config_id r.codec.num_samples_per_frame r.codec.coding w.depth;
       frames = all_of (λ (m : MixedElement). HasFramesOf r.codec (unit_of r u) m.element) r.elements w.frames;
       apart = w.passed.apart;
       trims = all_of (λ (f : FrameValue). f.trim ≡ first_trim (unit_of r u).frames) (unit_of r u).frames w.passed.alike;
@@ -190,8 +180,8 @@ whole_of bytes s target sub_mix u reads below =
       codec = codecs_are s ∙ ap (map role_of_codec) (codec_only bytes s reads);
       begun = begun;
     } in
-    let depth : HasDepth c.coding = (subst (Each (λ (x : CodecConfigFields). HasDepth x.coding)) (codec_only bytes s reads) (sequence_depths bytes s reads)).0 in
-    has_whole s target sub_mix u (subst (WholeBy s sub_mix.elements c) (sym (unit_at s u no_unit begun)) (whole_by s u sub_mix.elements c has depth))
+    let numbers : HasNumbers c = (subst (Each HasNumbers) (codec_only bytes s reads) (sequence_numbers bytes s reads)).0 in
+    has_whole s target sub_mix u (subst (WholeBy s sub_mix.elements c) (sym (unit_at s u no_unit begun)) (whole_by s u sub_mix.elements c has numbers.depth))
 
 -- ---- the rendition of a mix is that of its one sub-mix
 
@@ -214,3 +204,6 @@ frames_whole bytes s mix target r u reads e =
 
 pub one_config : OneCodecConfig
 one_config bytes s mix target r reads e = of_rendition (λ r. codec_configs s ≡ r.codec ∷ []) s mix target r e (λ m. codec_only bytes s reads)
+
+pub rendition_numbers : (bytes : List ℕ) (s : List ObuValue) (mix : ℕ) (target : Target) (r : Rendition) → Reads bytes s → rendition_of s mix target ≡ Some r → HasNumbers r.codec
+rendition_numbers bytes s mix target r reads e = (subst (Each HasNumbers) (one_config bytes s mix target r reads e) (sequence_numbers bytes s reads)).0

@@ -12,3 +12,5 @@ pub mod Balance
 pub mod Orderly
 pub mod UnitCount
 pub mod Lawful
+pub mod CompleteUnits
+pub mod OneCodec

@@ -8,3 +8,7 @@ pub mod FixedContext
 pub mod Encoded
 pub mod NarrowHeaders
 pub mod NarrowSequences
+pub mod FramesOfUnits
+pub mod AdmittedSequences
+pub mod ReadParts
+pub mod RoleNumbers

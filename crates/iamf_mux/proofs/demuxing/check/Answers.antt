@@ -1,10 +1,11 @@
-use Rattle.std.proofs.Common.{◌∷◌, [], ap, length, length-append, arith}
+use Rattle.std.proofs.Common.{ap, length, length-append, arith}
 use Rattle.std.specs.List.{flat_map}
 use Rattle.spec_files.specs.Body.{marked, rebuilt}
 use Rattle.mp4_boxes.specs.TrackViews.{track_seen, samples_left}
 use Rattle.iamf_mux.specs.Demuxing.{bare}
-use Rattle.iamf_mux.proofs.Fed.{config_fed, fits, sample_fed, all_fed, tells, reads_told, refusal_told}
-use Rattle.iamf_mux.specs.Feeding.{Tells}
+use Rattle.iamf_stream.specs.Feeding.{Tells}
+use Rattle.iamf_stream.proofs.Fed.{tells, reads_told, refusal_told}
+use Rattle.iamf_mux.proofs.FedTracks.{config_fed, fits, sample_fed, all_fed}
 use Rattle.iamf_mux.proofs.demuxing.check.Goals.{in-Ok, in-Err}
 use Rattle.iamf_mux.proofs.demuxing.check.Goals as goal
 

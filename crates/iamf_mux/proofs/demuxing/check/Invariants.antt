@@ -1,7 +1,7 @@
 use Rattle.std.proofs.Common.{length}
 use Rattle.mp4_boxes.specs.TrackViews.{samples_left}
 use Rattle.iamf_mux.specs.Demuxing.{bare}
-use Rattle.iamf_mux.proofs.Fed.{HasFed}
+use Rattle.iamf_mux.proofs.FedTracks.{HasFed}
 use Rattle.iamf_mux.proofs.demuxing.check.Given as goal
 
 abbrev pub invariant-loop-bytes : goal.invariant-loop-bytes

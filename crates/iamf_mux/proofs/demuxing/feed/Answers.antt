@@ -1,4 +1,4 @@
-use Rattle.iamf_mux.proofs.Fed.{knows_more, fed_more}
+use Rattle.iamf_stream.proofs.Fed.{knows_more, fed_more}
 use Rattle.iamf_mux.proofs.demuxing.feed.Goals as goal
 
 pub returns-clause-knows : goal.returns-clause-knows

@@ -1,7 +1,7 @@
 use Rattle.std.proofs.Common.{arith, ap, sym, ◌∙◌}
 use Rattle.std.specs.Option.{option_to_list}
 use Rattle.obu_descriptors.specs.ElementView.{view_element}
-use Rattle.iamf_play.proofs.SceneOutputs.{outputs_of_valid}
+use Rattle.spec_demix.proofs.SceneOutputs.{outputs_of_valid}
 use Rattle.iamf_play.proofs.PlanShapes.{no_fewer, layout_count, layer_count, scene_count, scene_few, scene_some}
 use Rattle.iamf_play.proofs.reserving.wave_channels.Goals as goal
 

@@ -7,6 +7,7 @@ use Rattle.spec_play.specs.FixedMix.{gained}
 use Rattle.obu_descriptors.specs.ElementView.{view_element}
 use Rattle.iamf_bits.specs.Rows.{Rows}
 use Rattle.iamf_mixing.specs.Ticks.{tick_of}
+use Rattle.iamf_mixing.specs.Sums.{base}
 use Rattle.iamf_channels.specs.Heard.{ChannelsValue}
 use Rattle.iamf_channels.specs.Playing.{IsPlaying}
 use Rattle.iamf_channels.specs.Adding.{CanAdd, added}
@@ -80,5 +81,5 @@ returns-clause-value c = λ r h k there.
     let value = tick_value c.args.self.now s.kernel s.demixing s.planes.items s.coded.items s.element.now r place.0 c.args.n (c.args.self.now.begun - 1) k (length c.args.sums.now) p element begun longer place.1 place.3 h there in
     let own = ap (λ (xs : List ℤ). added s.kernel s.element.now.config s.demixing.params xs k) row ∙ value in
     let params : c.params.result ≡ s.demixing.params = c.params.ensures in
-    c.add_tick.ensures.value k there ∙ ap (λ q. get_or c.args.sums.now k (pos 0) +ℤ gained (added s.kernel s.element.now.config q c.as_slice-2.result.now k) c.args.gain) params
-    ∙ ap (λ z. get_or c.args.sums.now k (pos 0) +ℤ gained z c.args.gain) own
+    c.add_tick.ensures.value k there ∙ ap (λ q. base c.args.fresh (get_or c.args.sums.now k (pos 0)) +ℤ gained (added s.kernel s.element.now.config q c.as_slice-2.result.now k) c.args.gain) params
+    ∙ ap (λ z. base c.args.fresh (get_or c.args.sums.now k (pos 0)) +ℤ gained z c.args.gain) own

@@ -1,4 +1,5 @@
 use Rattle.std.proofs.Common.{arith, ◌≤◌, ℤ, pos, ◌+ℤ◌, sym, ap, subst, ◌∙◌, get_or}
+use Rattle.iamf_mixing.specs.Sums.{base}
 use Rattle.iamf_play.proofs.PartSteps.{begun_is, hears, gain_low, value_here}
 use Rattle.iamf_play.proofs.element.PlayedElement.add.Goals as goal
 
@@ -13,4 +14,4 @@ add-requires-clause-gain c = let at = c.requires.place in subst (λ g. g ≤ 398
 
 pub returns-clause-value : goal.returns-clause-value
 returns-clause-value c = λ s r m u is inside k h.
-    c.add.ensures.value r (hears s r m _ c.args.self.now is.part) k h ∙ ap (λ (z : ℤ). get_or c.args.sums.now k (pos 0) +ℤ z) (value_here s r m u c.args.n k c.at-gain.result c.args.self.now is inside c.at-gain.ensures)
+    c.add.ensures.value r (hears s r m _ c.args.self.now is.part) k h ∙ ap (λ (z : ℤ). base c.args.fresh (get_or c.args.sums.now k (pos 0)) +ℤ z) (value_here s r m u c.args.n k c.at-gain.result c.args.self.now is inside c.at-gain.ensures)

@@ -1,0 +1,22 @@
+use Rattle.std.proofs.Common.{pos, ◌*ℤ◌, FitsSigned}
+use Rattle.std.specs.Int.{w64}
+use Rattle.std.proofs.lemmas.Int.{to_z-of_z}
+use Rattle.spec_gains.specs.Modes.{coefficients_of}
+use Rattle.spec_demix.specs.Floor.{floor_of}
+use Rattle.mix_fixed.specs.Scaled.{side_by}
+use Rattle.mix_fixed.proofs.StepLemmas.{side_is}
+use Rattle.mix_fixed.proofs.narrow.ears.Goals as goal
+
+pub returns-clause-left : goal.returns-clause-left
+returns-clause-left g c =
+    let center : FitsSigned w64 c.args.center = c.ranges.center in
+    let a = simp to_z-of_z at c.three-three.ensures.left in
+    side_is c.args.origins.now (coefficients_of c.args.mode) c.args.two.left (floor_of (pos 707 *ℤ c.args.center) 1000) (side_by c.args.coded.now c.args.sent.now.left) _ _ _ _ _
+    a c.samples-five.ensures.left c.surrounds-surround.ensures.left c.samples-side.ensures.left c.rears-rear.ensures.left
+
+pub returns-clause-right : goal.returns-clause-right
+returns-clause-right g c =
+    let center : FitsSigned w64 c.args.center = c.ranges.center in
+    let a = simp to_z-of_z at c.three-three.ensures.right in
+    side_is c.args.origins.now (coefficients_of c.args.mode) c.args.two.right (floor_of (pos 707 *ℤ c.args.center) 1000) (side_by c.args.coded.now c.args.sent.now.right) _ _ _ _ _
+    a c.samples-five.ensures.right c.surrounds-surround.ensures.right c.samples-side.ensures.right c.rears-rear.ensures.right

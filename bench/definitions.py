@@ -24,7 +24,7 @@ PROGRAM = """//! Adds definitions of mix gains, and reads a block of each.
 
 use iamf_bits::Out;
 use obu_data::{Definitions, Shape, read_block};
-use obu_descriptors::Timing;
+use obu_timing::Timing;
 use std::alloc::{AllocError, Global};
 use std::process::ExitCode;
 use std::{env, io};
@@ -100,7 +100,7 @@ def copy_repository(work):
     with open(os.path.join(TOP, "crates.txt")) as lines:
         crates = lines.read()
     with open(os.path.join(work, "crates.txt"), "w") as lines:
-        lines.write(crates + "growth: obu_data obu_descriptors iamf_bits\n")
+        lines.write(crates + "growth: obu_data obu_timing iamf_bits\n")
     os.makedirs(os.path.join(work, "crates", "growth", "src"))
     with open(os.path.join(work, "crates", "growth", "src", "main.rt"), "w") as main:
         main.write(PROGRAM)

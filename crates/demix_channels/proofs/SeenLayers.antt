@@ -1,5 +1,5 @@
 -- The layers of an element, as demixing sees them.
-use Rattle.std.proofs.Common.{arith, ◌≡◌, ◌<◌, ◌≤◌, ℕ, zero, suc, pos, ◌≤ℤ◌, ◌+◌, List, [], ◌∷◌, length, map, get_or, slice_index_or, refl, ◌∙◌, ap, Some, None, Option, false}
+use Rattle.std.proofs.Common.{arith, ◌≡◌, ◌<◌, ◌≤◌, ℕ, zero, suc, List, [], ◌∷◌, length, map, get_or, refl, ◌∙◌, ap, Some, None, Option, false}
 use Rattle.std.specs.Prelude.{slice_get, option_map}
 use Rattle.std.proofs.lemmas.List.{length-map, get_or-map, get_or_default}
 use Rattle.spec_layouts.specs.declared.Layout.{Layout}
@@ -9,9 +9,9 @@ use Rattle.spec_demix.specs.declared.DemixLayer.{DemixLayer}
 use Rattle.spec_demix.specs.Sent.{layer_at}
 use Rattle.spec_demix.specs.Sizes.{AreModest}
 use Rattle.spec_demix.specs.Elements.{layer_of, demix_layer_of, demix_layers_of}
-use Rattle.obu_descriptors.specs.declared.layer.OutputGain.{OutputGain}
-use Rattle.obu_descriptors.specs.declared.layer.Layer.{Layer}
-use Rattle.obu_descriptors.specs.LayerView.{view_gain, view_layer}
+use Rattle.obu_element_config.specs.declared.layer.OutputGain.{OutputGain}
+use Rattle.obu_element_config.specs.declared.layer.Layer.{Layer}
+use Rattle.obu_element_config.specs.LayerView.{view_gain, view_layer}
 use Rattle.demix_channels.specs.Gains.{IsModestGain, IsModestLayer, HaveModestGains}
 
 -- the layers of an element as demixing sees them

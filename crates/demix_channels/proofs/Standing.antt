@@ -1,6 +1,8 @@
 -- Where a layer's channels stand among an element's coded samples: each has its place.
-use Rattle.std.proofs.Common.{arith, ◌≡◌, ◌≢◌, ◌<◌, ◌≤◌, ℕ, zero, suc, ◌+◌, ◌-◌, refl, List, length, Bool, true, false, if◌then◌else◌, nat_lt}
+use Rattle.std.proofs.Common.{arith, ◌≡◌, ◌≢◌, ◌<◌, ◌≤◌, ℕ, zero, suc, ◌+◌, ◌-◌, refl, List, length, Bool, true, false, if◌then◌else◌, nat_lt, nat_le, ◌&&◌}
 use Rattle.std.proofs.lemmas.Bool.Decides.{nat_tests}
+use Rattle.std.proofs.lemmas.Bool.{cases_lt}
+use Rattle.std.proofs.Math.Logic.{⊎_elim}
 use Rattle.spec_layouts.specs.declared.Layout.{Layout}
 use Rattle.spec_layouts.specs.declared.Layout.TheVariants.{Mono, Stereo, L51, L512, L514, L71, L712, L714, L312, Binaural}
 use Rattle.spec_layouts.specs.Layouts.{channels, surround, height}
@@ -11,10 +13,13 @@ use Rattle.spec_demix.specs.declared.SentSide.{SentSide}
 use Rattle.spec_demix.specs.declared.SentTops.{SentTops}
 use Rattle.spec_demix.specs.declared.SentBed.{SentBed}
 use Rattle.spec_demix.specs.Kinds.{kind_of, reaches, gives_three, gives_two, gives_four, gives_back}
-use Rattle.spec_demix.specs.OutputGains.{factor_of}
-use Rattle.spec_demix.specs.Sent.{sent_if, plain_if, count_if, first_sent, next_side_at, next_top_at, next_back_at, next_center_at, next_stereo_at, next_end_at, next_tops, next_sent, layer_at, kinds_of, place_after, sent_at, IsLayers}
+use Rattle.spec_demix.specs.OutputGains.{factor_of, flag_of_left, flag_of_right, flag_of_left_surround, flag_of_right_surround, flag_of_left_top, flag_of_right_top}
+use Rattle.spec_demix.specs.Sent.{sent_if, plain_if, count_if, first_top, first_side, first_tops, first_sent, next_side_at, next_top_at, next_back_at, next_center_at, next_stereo_at, next_end_at, next_tops, next_sent, layer_at, kinds_of, place_after, sent_at, IsLayers}
 use Rattle.spec_demix.specs.Sizes.{AreModest}
-use Rattle.spec_demix.proofs.Factors.{IsFactored, IsFactoredSide, IsFactoredTops, sent_factored}
+use Rattle.spec_demix.proofs.FloorLemmas.{passes, fails, reached, not_reached, back_given, back_not_given}
+use Rattle.spec_demix.proofs.KindFits.{IsKind}
+use Rattle.spec_demix.proofs.NextCarried.{kind_is}
+use Rattle.spec_demix.proofs.Factors.{IsFactoredSide, IsFactoredTops, sent_factored}
 use Rattle.demix_channels.specs.Room.{IsSentWithin, AreSidesWithin, AreTopsWithin, AreWithin}
 
 record ArePlacedSide (n : ℕ) (sent : SentSide) : Type 0 where
@@ -40,91 +45,94 @@ record ArePlaced (n : ℕ) (sent : SentBed) : Type 0 where
   left_top : ArePlacedTops n sent.left_top
   right_top : ArePlacedTops n sent.right_top
 
+-- ---- how many channels a layout has, by its counts
+
+-- the channels at ear height, with Lfe: each count of surround channels that is reached brings its own
+abbrev ear : ℕ → ℕ
+ear surround = (((1 + count_if (nat_le 2 surround) 1) + count_if (nat_le 3 surround) 2) + count_if (nat_le 5 surround) 2) + count_if (nat_le 7 surround) 2
+
+counted : (layout : Layout) → layout ≢ Binaural → length (channels layout) ≡ ear (surround layout) + height layout
+counted Mono b = refl
+counted Stereo b = refl
+counted L51 b = refl
+counted L512 b = refl
+counted L514 b = refl
+counted L71 b = refl
+counted L712 b = refl
+counted L714 b = refl
+counted L312 b = refl
+counted Binaural b = absurd (b refl)
+
+from_two : (s : ℕ) → 2 ≤ s → 2 ≤ ear s
+from_two s h = rw (passes 2 s h) (omega arith)
+
+from_five : (s : ℕ) → 5 ≤ s → 6 ≤ ear s
+from_five s h = rw (passes 2 s (omega arith)) (rw (passes 3 s (omega arith)) (rw (passes 5 s h) (omega arith)))
+
+from_seven : (s : ℕ) → 7 ≤ s → 8 ≤ ear s
+from_seven s h = rw (passes 2 s (omega arith)) (rw (passes 3 s (omega arith)) (rw (passes 5 s (omega arith)) (rw (passes 7 s h) (omega arith))))
+
+-- C and Lfe come after the pairs at ear height
+from_three : (s : ℕ) → 3 ≤ s → first_top s + 2 ≡ ear s
+from_three s h =
+    rw (passes 2 s (omega arith)) (rw (passes 3 s h)
+    (⊎_elim (λ l. rw (fails 7 s (omega arith)) (rw (fails 5 s l) refl))
+    (λ m. ⊎_elim (λ l. rw (fails 7 s l) (rw (passes 5 s m) refl)) (λ g. rw (passes 7 s g) (rw (passes 5 s m) refl)) (cases_lt s 7)) (cases_lt s 5)))
+
 -- ---- a first layer
 
-first_placed : (layout : Layout) (flags factor n : ℕ) → layout ≢ Binaural → length (channels layout) ≤ n → ArePlaced n (first_sent (record { layout = layout; flags = flags; factor = factor }))
-first_placed Mono flags factor n b h = record {
-  mono = omega arith;
-  center = omega arith;
-  low = omega arith;
-  left = record { two = omega arith; three = omega arith; five = omega arith; surround = omega arith; side = omega arith; rear = omega arith };
-  right = record { two = omega arith; three = omega arith; five = omega arith; surround = omega arith; side = omega arith; rear = omega arith };
-  left_top = record { three = omega arith; two = omega arith; four = omega arith; back = omega arith };
-  right_top = record { three = omega arith; two = omega arith; four = omega arith; back = omega arith };
-}
-first_placed Stereo flags factor n b h = record {
-  mono = omega arith;
-  center = omega arith;
-  low = omega arith;
-  left = record { two = omega arith; three = omega arith; five = omega arith; surround = omega arith; side = omega arith; rear = omega arith };
-  right = record { two = omega arith; three = omega arith; five = omega arith; surround = omega arith; side = omega arith; rear = omega arith };
-  left_top = record { three = omega arith; two = omega arith; four = omega arith; back = omega arith };
-  right_top = record { three = omega arith; two = omega arith; four = omega arith; back = omega arith };
-}
-first_placed L51 flags factor n b h = record {
-  mono = omega arith;
-  center = omega arith;
-  low = omega arith;
-  left = record { two = omega arith; three = omega arith; five = omega arith; surround = omega arith; side = omega arith; rear = omega arith };
-  right = record { two = omega arith; three = omega arith; five = omega arith; surround = omega arith; side = omega arith; rear = omega arith };
-  left_top = record { three = omega arith; two = omega arith; four = omega arith; back = omega arith };
-  right_top = record { three = omega arith; two = omega arith; four = omega arith; back = omega arith };
-}
-first_placed L512 flags factor n b h = record {
-  mono = omega arith;
-  center = omega arith;
-  low = omega arith;
-  left = record { two = omega arith; three = omega arith; five = omega arith; surround = omega arith; side = omega arith; rear = omega arith };
-  right = record { two = omega arith; three = omega arith; five = omega arith; surround = omega arith; side = omega arith; rear = omega arith };
-  left_top = record { three = omega arith; two = omega arith; four = omega arith; back = omega arith };
-  right_top = record { three = omega arith; two = omega arith; four = omega arith; back = omega arith };
-}
-first_placed L514 flags factor n b h = record {
-  mono = omega arith;
-  center = omega arith;
-  low = omega arith;
-  left = record { two = omega arith; three = omega arith; five = omega arith; surround = omega arith; side = omega arith; rear = omega arith };
-  right = record { two = omega arith; three = omega arith; five = omega arith; surround = omega arith; side = omega arith; rear = omega arith };
-  left_top = record { three = omega arith; two = omega arith; four = omega arith; back = omega arith };
-  right_top = record { three = omega arith; two = omega arith; four = omega arith; back = omega arith };
-}
-first_placed L71 flags factor n b h = record {
-  mono = omega arith;
-  center = omega arith;
-  low = omega arith;
-  left = record { two = omega arith; three = omega arith; five = omega arith; surround = omega arith; side = omega arith; rear = omega arith };
-  right = record { two = omega arith; three = omega arith; five = omega arith; surround = omega arith; side = omega arith; rear = omega arith };
-  left_top = record { three = omega arith; two = omega arith; four = omega arith; back = omega arith };
-  right_top = record { three = omega arith; two = omega arith; four = omega arith; back = omega arith };
-}
-first_placed L712 flags factor n b h = record {
-  mono = omega arith;
-  center = omega arith;
-  low = omega arith;
-  left = record { two = omega arith; three = omega arith; five = omega arith; surround = omega arith; side = omega arith; rear = omega arith };
-  right = record { two = omega arith; three = omega arith; five = omega arith; surround = omega arith; side = omega arith; rear = omega arith };
-  left_top = record { three = omega arith; two = omega arith; four = omega arith; back = omega arith };
-  right_top = record { three = omega arith; two = omega arith; four = omega arith; back = omega arith };
-}
-first_placed L714 flags factor n b h = record {
-  mono = omega arith;
-  center = omega arith;
-  low = omega arith;
-  left = record { two = omega arith; three = omega arith; five = omega arith; surround = omega arith; side = omega arith; rear = omega arith };
-  right = record { two = omega arith; three = omega arith; five = omega arith; surround = omega arith; side = omega arith; rear = omega arith };
-  left_top = record { three = omega arith; two = omega arith; four = omega arith; back = omega arith };
-  right_top = record { three = omega arith; two = omega arith; four = omega arith; back = omega arith };
-}
-first_placed L312 flags factor n b h = record {
-  mono = omega arith;
-  center = omega arith;
-  low = omega arith;
-  left = record { two = omega arith; three = omega arith; five = omega arith; surround = omega arith; side = omega arith; rear = omega arith };
-  right = record { two = omega arith; three = omega arith; five = omega arith; surround = omega arith; side = omega arith; rear = omega arith };
-  left_top = record { three = omega arith; two = omega arith; four = omega arith; back = omega arith };
-  right_top = record { three = omega arith; two = omega arith; four = omega arith; back = omega arith };
-}
-first_placed Binaural flags factor n b h = absurd (b refl)
+ahead_if : (t : Bool) (f i n : ℕ) → 0 < n → (t ≡ true → i < n) → (sent_if t f i).place < n
+ahead_if true f i n some h = h refl
+ahead_if false f i n some h = some
+
+first_side_placed : (layer : DemixLayer) (right front back n : ℕ) → right < 2 → 0 < n → ear (surround layer.layout) ≤ n → ArePlacedSide n (first_side layer right front back)
+first_side_placed layer right front back n one some h =
+    let s = surround layer.layout in
+    let plain : ℕ = 1000000000000 in
+    let two : 2 ≤ s → right < n = λ a. let e = from_two s a in omega arith in
+    let five : 5 ≤ s → 2 + right < n = λ a. let e = from_five s a in omega arith in
+    let seven : 7 ≤ s → 4 + right < n = λ a. let e = from_seven s a in omega arith in
+    record {
+      two = ahead_if (nat_le 2 s && nat_lt s 3) (factor_of layer front) right n some (λ t. two (grind (arith, nat_tests)));
+      three = ahead_if (nat_le 3 s && nat_lt s 5) (factor_of layer front) right n some (λ t. let a : 3 ≤ s = grind (arith, nat_tests) in two (omega arith));
+      five = ahead_if (nat_le 5 s) plain right n some (λ t. let a : 5 ≤ s = grind (arith, nat_tests) in two (omega arith));
+      surround = ahead_if (nat_le 5 s && nat_lt s 7) (factor_of layer back) (2 + right) n some (λ t. five (grind (arith, nat_tests)));
+      side = ahead_if (nat_le 7 s) plain (2 + right) n some (λ t. let a : 7 ≤ s = grind (arith, nat_tests) in five (omega arith));
+      rear = ahead_if (nat_le 7 s) plain (4 + right) n some (λ t. seven (grind (arith, nat_tests)));
+    }
+
+first_tops_placed : (layer : DemixLayer) (right flag n : ℕ) → right < 2 → 0 < n → ear (surround layer.layout) + height layer.layout ≤ n → ArePlacedTops n (first_tops layer right flag)
+first_tops_placed layer right flag n one some h =
+    let s = surround layer.layout in
+    let high = height layer.layout in
+    let low = (kind_is layer.layout).low in
+    let at = first_top s + right in
+    let begins : 2 ≤ high → at + 1 ≤ ear s = λ a. let b : 3 ≤ s = ⊎_elim (λ l. let e = low l in omega arith) (λ m. m) (cases_lt s 3) in let e = from_three s b in omega arith in
+    let two : 2 ≤ high → at < n = λ a. let e = begins a in omega arith in
+    let four : 4 ≤ high → 2 + at < n = λ a. let e = begins (omega arith) in omega arith in
+    record {
+      three = ahead_if (nat_le 2 high && nat_lt s 5) (factor_of layer flag) at n some (λ t. two (grind (arith, nat_tests)));
+      two = ahead_if (nat_le 2 high && (nat_lt high 4 && nat_le 5 s)) (factor_of layer flag) at n some (λ t. two (grind (arith, nat_tests)));
+      four = ahead_if (nat_le 4 high) (factor_of layer flag) at n some (λ t. let a : 4 ≤ high = grind (arith, nat_tests) in two (omega arith));
+      back = ahead_if (nat_le 4 high) 1000000000000 (2 + at) n some (λ t. four (grind (arith, nat_tests)));
+    }
+
+first_placed : (layer : DemixLayer) (n : ℕ) → layer.layout ≢ Binaural → length (channels layer.layout) ≤ n → ArePlaced n (first_sent layer)
+first_placed layer n b h =
+    let s = surround layer.layout in
+    let e = counted layer.layout b in
+    let some : 0 < n = omega arith in
+    let center = first_top s + height layer.layout in
+    let after : 3 ≤ s → 1 + center < n = λ a. let c = from_three s a in omega arith in
+    record {
+      mono = ahead_if (nat_lt s 2) (factor_of layer flag_of_left) 0 n some (λ t. some);
+      center = ahead_if (nat_le 3 s) 1000000000000 center n some (λ t. let a = after (grind (arith, nat_tests)) in omega arith);
+      low = ahead_if (nat_le 3 s) 1000000000000 (1 + center) n some (λ t. after (grind (arith, nat_tests)));
+      left = first_side_placed layer 0 flag_of_left flag_of_left_surround n (omega arith) some (omega arith);
+      right = first_side_placed layer 1 flag_of_right flag_of_right_surround n (omega arith) some (omega arith);
+      left_top = first_tops_placed layer 0 flag_of_left_top n (omega arith) some (omega arith);
+      right_top = first_tops_placed layer 1 flag_of_right_top n (omega arith) some (omega arith);
+    }
 
 -- ---- a next layer, whose channels begin at `at` and end before `n`
 
@@ -199,52 +207,41 @@ next_placed before layer at n some h =
       right_top = next_tops_placed before layer at n 1 0 some (omega arith) h;
     }
 
+-- what a count brings that is reached from another
+brought : (count before now n : ℕ) → before ≤ now → count_if (nat_le count before) n + count_if (reaches count before now) n ≡ count_if (nat_le count now) n
+brought count before now n h =
+    ⊎_elim (λ low. rw (fails count before low)
+    (⊎_elim (λ short. let e : reaches count before now ≡ false = grind (arith, nat_tests) in rw e (rw (fails count now short) refl)) (λ met. rw (reached count before now low met) (rw (passes count now met) (omega arith))) (cases_lt now count)))
+    (λ kept. rw (passes count before kept) (rw (not_reached count before now kept) (rw (passes count now (omega arith)) (omega arith)))) (cases_lt before count)
+
+raised : (before now : Kind) → IsKind before → IsKind now → before.height ≤ now.height → (before.height + count_if (nat_lt before.height now.height) 2) + count_if (gives_back before now) 2 ≤ now.height
+raised before now p q h =
+    let a = p.even in
+    let b = q.even in
+    let top = q.high in
+    let flat : nat_lt before.height now.height ≡ false → gives_back before now ≡ false → (before.height + count_if (nat_lt before.height now.height) 2) + count_if (gives_back before now) 2 ≤ now.height
+    = λ t g. rw t (rw g (omega arith)) in
+    ⊎_elim (λ l. let t : nat_lt before.height now.height ≡ true = grind (arith, nat_tests) in rw t
+    (⊎_elim (λ few. let none = a.0 few in ⊎_elim
+    (λ two. let g : gives_back before now ≡ false = grind (arith, nat_tests) in let e : 2 ≤ now.height = ⊎_elim (λ x. let y = b.0 x in omega arith) (λ x. x) (cases_lt now.height 2) in rw g (omega arith))
+    (λ four. rw (back_given before now few four) (omega arith)) (cases_lt now.height 4))
+    (λ some. let e = b.1 (omega arith) in let f : before.height ≤ 2 = ⊎_elim (λ x. let y = a.1 x in omega arith) (λ x. x) (cases_lt 2 before.height) in rw (back_not_given before now some) (omega arith)) (cases_lt before.height 2)))
+    (λ m. flat (grind (arith, nat_tests)) (grind (arith, nat_tests))) (cases_lt before.height now.height)
+
 -- a next layer ends where the channels of its layout do
 ends : (before now : Layout) → before ≢ Binaural → now ≢ Binaural → surround before ≤ surround now → height before ≤ height now
     → next_end_at (kind_of before) (kind_of now) (length (channels before)) ≤ length (channels now)
-ends Mono Mono m n x z = omega arith
-ends Mono Stereo m n x z = omega arith
-ends Mono L51 m n x z = omega arith
-ends Mono L512 m n x z = omega arith
-ends Mono L514 m n x z = omega arith
-ends Mono L71 m n x z = omega arith
-ends Mono L712 m n x z = omega arith
-ends Mono L714 m n x z = omega arith
-ends Mono L312 m n x z = omega arith
-ends Stereo Stereo m n x z = omega arith
-ends Stereo L51 m n x z = omega arith
-ends Stereo L512 m n x z = omega arith
-ends Stereo L514 m n x z = omega arith
-ends Stereo L71 m n x z = omega arith
-ends Stereo L712 m n x z = omega arith
-ends Stereo L714 m n x z = omega arith
-ends Stereo L312 m n x z = omega arith
-ends L51 L51 m n x z = omega arith
-ends L51 L512 m n x z = omega arith
-ends L51 L514 m n x z = omega arith
-ends L51 L71 m n x z = omega arith
-ends L51 L712 m n x z = omega arith
-ends L51 L714 m n x z = omega arith
-ends L512 L512 m n x z = omega arith
-ends L512 L514 m n x z = omega arith
-ends L512 L712 m n x z = omega arith
-ends L512 L714 m n x z = omega arith
-ends L514 L514 m n x z = omega arith
-ends L514 L714 m n x z = omega arith
-ends L71 L71 m n x z = omega arith
-ends L71 L712 m n x z = omega arith
-ends L71 L714 m n x z = omega arith
-ends L712 L712 m n x z = omega arith
-ends L712 L714 m n x z = omega arith
-ends L714 L714 m n x z = omega arith
-ends L312 L512 m n x z = omega arith
-ends L312 L514 m n x z = omega arith
-ends L312 L712 m n x z = omega arith
-ends L312 L714 m n x z = omega arith
-ends L312 L312 m n x z = omega arith
-ends Binaural now m n x z = absurd (m refl)
-ends before Binaural m n x z = absurd (n refl)
-ends before now m n x z = absurd (omega arith)
+ends before now m n x z =
+    let s = surround before in
+    let t = surround now in
+    let a = counted before m in
+    let b = counted now n in
+    let two = brought 2 s t 1 x in
+    let three = brought 3 s t 2 x in
+    let five = brought 5 s t 2 x in
+    let seven = brought 7 s t 2 x in
+    let tops = raised (kind_of before) (kind_of now) (kind_is before) (kind_is now) z in
+    omega arith
 
 some_channels : (layout : Layout) → 0 < length (channels layout)
 some_channels Mono = omega arith
@@ -290,7 +287,7 @@ grown layers target j n chain h room =
 placed : (layers : List DemixLayer) (target n j : ℕ) → IsLayers layers target → place_after layers target ≤ n → j ≤ target → ArePlaced n (sent_at layers j)
 placed layers target n zero chain room h =
     let first = layer_at layers 0 in
-    first_placed first.layout first.flags first.factor n (chain.speakers 0 h) (grown layers target 0 n chain h room)
+    first_placed first n (chain.speakers 0 h) (grown layers target 0 n chain h room)
 placed layers target n (suc j) chain room h =
     let s = chain.steps j h in
     let now = layer_at layers (suc j) in

@@ -1,7 +1,7 @@
 -- Which output gains are played.
 use Rattle.std.specs.Prelude.{◌≤◌, Option, Some, None, pos, ◌≤ℤ◌, List, slice_get, ℕ}
-use Rattle.obu_descriptors.specs.declared.layer.OutputGain.{OutputGain}
-use Rattle.obu_descriptors.specs.declared.layer.Layer.{Layer}
+use Rattle.obu_element_config.specs.declared.layer.OutputGain.{OutputGain}
+use Rattle.obu_element_config.specs.declared.layer.Layer.{Layer}
 
 -- none, or one of at most 32 dB
 abbrev pub IsModestGain : Option OutputGain → Type 0

@@ -4,11 +4,11 @@ ghost use Rattle.std.specs.Prelude.{◌≡◌, ◌+◌, ◌^◌, ◌<◌, ◌≤
 ghost use Rattle.spec_demix.specs.Sent.{IsLayers};
 ghost use Rattle.spec_demix.specs.Sizes.{AreSamples};
 ghost use Rattle.spec_demix.specs.Elements.{demix_layers_of};
-ghost use Rattle.obu_descriptors.specs.LayerView.{view_layer};
+ghost use Rattle.obu_element_config.specs.LayerView.{view_layer};
 ghost use Rattle.demix_channels.specs.Gains.{IsModestGain, HaveModestGains};
 
 use iamf_tables::{Layout, new_channels};
-use obu_descriptors::{Layer, OutputGain};
+use obu_element_config::{Layer, OutputGain};
 
 /// Whether the layers up to `target` are an allowed chain without binaural.
 pub fn is_chain(layers: &[Layer], target: usize) -> bool

@@ -2,11 +2,11 @@
 
 ghost use Rattle.std.specs.Prelude.{◌≡◌, ◌≤◌, pos, ◌≤ℤ◌};
 ghost use Rattle.spec_demix.specs.Elements.{demix_layer_of};
-ghost use Rattle.obu_descriptors.specs.LayerView.{view_layer};
+ghost use Rattle.obu_element_config.specs.LayerView.{view_layer};
 ghost use Rattle.demix_channels.specs.Gains.{IsModestGain};
 
 use iamf_tables::gain;
-use obu_descriptors::Layer;
+use obu_element_config::Layer;
 use spec_demix::DemixLayer;
 
 /// The layer as demixing sees it, with what its output gain multiplies by.

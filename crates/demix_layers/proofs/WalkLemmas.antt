@@ -8,8 +8,8 @@ use Rattle.spec_gains.specs.Modes.{Coefficients}
 use Rattle.spec_demix.specs.declared.Kind.{Kind}
 use Rattle.spec_demix.specs.Kinds.{kind_of}
 use Rattle.spec_demix.specs.Elements.{demix_layer_of}
-use Rattle.obu_descriptors.specs.declared.layer.Layer.{Layer}
-use Rattle.obu_descriptors.specs.LayerView.{view_layer}
+use Rattle.obu_element_config.specs.declared.layer.Layer.{Layer}
+use Rattle.obu_element_config.specs.LayerView.{view_layer}
 use Rattle.demix_channels.proofs.SeenLayers.{seen, seen_at, layout_at, no_layer}
 use Rattle.spec_demix.specs.declared.DemixLayer.{DemixLayer}
 use Rattle.spec_demix.specs.declared.Sent.{Sent}

@@ -4,8 +4,8 @@ use Rattle.spec_descriptors.specs.Ambisonics.{AmbisonicsFields}
 use Rattle.spec_descriptors.specs.Ambisonics as fields
 use Rattle.spec_demix.specs.declared.Fraction.{Fraction}
 use Rattle.spec_demix.specs.Scenes.{IsWhole, IsScene, coded_of, outputs_of}
-use Rattle.obu_descriptors.specs.declared.config.ElementConfig.{ElementConfig}
-use Rattle.obu_descriptors.specs.declared.config.ElementConfig.TheVariants.{Scalable, Mono, Projection, Other}
+use Rattle.obu_element_config.specs.declared.config.ElementConfig.{ElementConfig}
+use Rattle.obu_element_config.specs.declared.config.ElementConfig.TheVariants.{Scalable, Mono, Projection, Other}
 
 -- these fields are whole, have an output c and so many coded channels
 pub record HasOutput (config : AmbisonicsFields) (channels c : ℕ) : Type 0 where

@@ -6,14 +6,14 @@ ghost use Rattle.spec_demix.specs.Sent.{IsLayers};
 ghost use Rattle.spec_demix.specs.Fits.{Fits, target_channels};
 ghost use Rattle.spec_demix.specs.Sizes.{AreSamples};
 ghost use Rattle.spec_demix.specs.Elements.{demix_layers_of};
-ghost use Rattle.obu_descriptors.specs.LayerView.{view_layer};
+ghost use Rattle.obu_element_config.specs.LayerView.{view_layer};
 ghost use Rattle.demix_channels.specs.Gains.{HaveModestGains};
 ghost use Rattle.demix_layers.specs.Quotients.{IsBounded};
 
 use crate::gathering::{gather, whole};
 use crate::walk::walk;
 use demix_channels::{DemixParams, kind};
-use obu_descriptors::Layer;
+use obu_element_config::Layer;
 use spec_demix::Fraction;
 
 /// Writes the channels of layer `target`, counted from 0, in the order of a WAV file, from the coded samples of one tick:

@@ -6,7 +6,7 @@ ghost use Rattle.spec_demix.specs.Sizes.{AreSamples};
 ghost use Rattle.demix_layers.specs.SceneLaws.{ValidAreWhole};
 ghost use Rattle.demix_layers.specs.SceneView.{IsPlayed, IsOutput};
 
-use obu_descriptors::ElementConfig;
+use obu_element_config::ElementConfig;
 use spec_demix::Fraction;
 
 /// An output by its substream.

@@ -6,7 +6,7 @@ ghost use Rattle.spec_demix.specs.Sent.{kinds_of, place_after, sent_by, IsLayers
 ghost use Rattle.spec_demix.specs.ExactWalk.{exact};
 ghost use Rattle.spec_demix.specs.Sizes.{AreSamples};
 ghost use Rattle.spec_demix.specs.Elements.{demix_layers_of};
-ghost use Rattle.obu_descriptors.specs.LayerView.{view_layer};
+ghost use Rattle.obu_element_config.specs.LayerView.{view_layer};
 ghost use Rattle.demix_channels.specs.Gains.{HaveModestGains};
 ghost use Rattle.demix_layers.specs.Within.{IsWithin};
 
@@ -14,7 +14,7 @@ use crate::samples::bed;
 use crate::steps::{bed_begins, bed_step};
 use demix_channels::{DemixParams, demix_layer, kind, sent_first, sent_next};
 use iamf_tables::channel_count;
-use obu_descriptors::Layer;
+use obu_element_config::Layer;
 use spec_demix::Bed;
 
 /// All channels after the target layer.

@@ -8,7 +8,7 @@ use iamf_tables::{
     Channel, Layout, channel_at, channel_count, demix_mode, gain, new_channels, weight,
 };
 use mix_fixed::{DemixParams, Kernel};
-use obu_descriptors::{Layer, OutputGain};
+use obu_element_config::{Layer, OutputGain};
 use spec_demix::Kind;
 use std::process::Abort;
 use std::test::Fail;

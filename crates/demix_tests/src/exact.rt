@@ -6,7 +6,7 @@ use crate::layers::{assert_layers, layer};
 use demix_channels::are_samples;
 use demix_layers::{DemixParams, Fraction, demix_exact, scene_exact, to_units};
 use iamf_tables::{Layout, demix_mode};
-use obu_descriptors::{ElementConfig, Layer, OutputGain};
+use obu_element_config::{ElementConfig, Layer, OutputGain};
 use std::process::Abort;
 
 const UNIT: i128 = 0x1000_0000;

@@ -4,7 +4,7 @@ use crate::layers::{assert_layers, layer};
 use demix_channels::are_samples;
 use iamf_tables::{Layout, demix_mode};
 use mix_fixed::{DemixParams, Kernel, apply_gain, round_clip};
-use obu_descriptors::{Layer, OutputGain};
+use obu_element_config::{Layer, OutputGain};
 use std::process::Abort;
 
 const UNIT: i128 = 0x1000_0000;

@@ -4,12 +4,12 @@ ghost use Rattle.std.specs.Prelude.{◌≡◌, ◌<◌, ◌≤◌, length, map};
 ghost use Rattle.spec_demix.specs.Fits.{target_channels};
 ghost use Rattle.spec_demix.specs.Sent.{IsLayers};
 ghost use Rattle.spec_demix.specs.Elements.{demix_layers_of};
-ghost use Rattle.obu_descriptors.specs.LayerView.{view_layer};
+ghost use Rattle.obu_element_config.specs.LayerView.{view_layer};
 ghost use Rattle.demix_channels.specs.Gains.{HaveModestGains};
 
 use demix_channels::{have_modest_gains, is_chain};
 use iamf_tables::{Layout, channel_count};
-use obu_descriptors::Layer;
+use obu_element_config::Layer;
 use std::process::Abort;
 
 /// A layer without an output gain.

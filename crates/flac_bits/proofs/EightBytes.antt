@@ -6,7 +6,7 @@ use Rattle.std.proofs.lemmas.Nat.{pow-add}
 use Rattle.std.proofs.lemmas.List.{take-append-drop, length-take-le, length-drop, drop_more, take_at}
 use Rattle.spec_bits.specs.Bits.{Bits, number_of, bits_of, all_bits}
 use Rattle.spec_bits.proofs.BitsLaws.{number_of-bits_of, all_bits-append, length-all_bits, drop-all_bits}
-use Rattle.flac_bits.proofs.TopBits.{number_of-append}
+use Rattle.spec_bits.proofs.JoinLaws.{number_of-append}
 
 -- so many bytes from a place, the first on top
 through : ℕ → List ℕ → ℕ → ℕ

@@ -1,11 +1,11 @@
 -- The number that the last bytes are, on top of a word.
-use Rattle.std.proofs.Common.{◌≡◌, ℕ, ◌+◌, ◌-◌, ◌*◌, ◌^◌, ◌%◌, ◌<◌, ◌≤◌, List, [], ◌∷◌, ◌++◌, length, get_or, take, drop, refl, sym, ap, subst, ◌∙◌, arith}
-use Rattle.std.proofs.lemmas.List.{length-drop, length-take-le, take_all, take_more, append-nil, drop-drop}
-use Rattle.std.proofs.lemmas.Nat.{shl_whole, pow_below}
-use Rattle.spec_bits.specs.Bits.{Bits, number_of, bits_of, all_bits}
+use Rattle.std.proofs.Common.{◌≡◌, ℕ, ◌+◌, ◌-◌, ◌*◌, ◌^◌, ◌%◌, ◌<◌, ◌≤◌, List, length, take, drop, sym, ap, subst, ◌∙◌, arith}
+use Rattle.std.proofs.lemmas.List.{length-drop, take_all, drop-drop}
+use Rattle.std.proofs.lemmas.Nat.{shl_whole}
+use Rattle.spec_bits.specs.Bits.{Bits, number_of, all_bits}
 use Rattle.flac_bits.specs.Windows.{IsTop}
-use Rattle.spec_bits.proofs.BitsLaws.{length-bits_of, number_of-bound, number_of-bits_of, all_bits-append, length-all_bits, drop-all_bits}
-use Rattle.flac_bits.proofs.TopBits.{number_of-append, shifted}
+use Rattle.spec_bits.proofs.BitsLaws.{number_of-bound, length-all_bits, drop-all_bits}
+use Rattle.flac_bits.proofs.TopBits.{shifted}
 
 pub rest_all : (xs : List ℕ) (at : ℕ) → take (length xs - at) (drop at xs) ≡ drop at xs
 rest_all xs at = take_all (length xs - at) (drop at xs) (omega (arith, length-drop at xs))
@@ -31,18 +31,3 @@ last_top xs at used place w inside few split le is =
     let top = shifted ((w * 2 ^ (64 - 8 * length ys)) % 2 ^ 64) (8 * length ys) used (all_bits ys) (omega arith) (whole_top ys w value (omega arith)) in
     subst (λ (b : Bits). IsTop (((w * 2 ^ (64 - 8 * (length xs - at))) % 2 ^ 64 * 2 ^ used) % 2 ^ 64) (8 * (length xs - at) - used) b) bits
     (subst (λ (n : ℕ). IsTop (((w * 2 ^ (64 - 8 * n)) % 2 ^ 64 * 2 ^ used) % 2 ^ 64) (8 * n - used) (drop used (all_bits ys))) len top)
-
-pub number_more : (xs : List ℕ) (i : ℕ) → i < length xs → get_or xs i 0 < 256 → number_of (all_bits (take (i + 1) xs)) ≡ number_of (all_bits (take i xs)) * 256 + get_or xs i 0
-unfolding all_bits
-number_more xs i lt small =
-    let one : all_bits (get_or xs i 0 ∷ []) ≡ bits_of 8 (get_or xs i 0) = append-nil (bits_of 8 (get_or xs i 0)) in
-    ap (λ (ys : List ℕ). number_of (all_bits ys)) (take_more xs i 0 lt)
-    ∙ ap number_of (all_bits-append (take i xs) (get_or xs i 0 ∷ []) ∙ ap (λ (b : Bits). all_bits (take i xs) ++ b) one)
-    ∙ number_of-append (all_bits (take i xs)) (bits_of 8 (get_or xs i 0))
-    ∙ rw (length-bits_of 8 (get_or xs i 0), number_of-bits_of 8 (get_or xs i 0) small) refl
-
-pub number_below : (xs : List ℕ) (i : ℕ) → i < 7 → i ≤ length xs → number_of (all_bits (take i xs)) < 2 ^ 56
-number_below xs i lt le =
-    let e : length (all_bits (take i xs)) ≡ 8 * i = length-all_bits (take i xs) ∙ ap (λ (k : ℕ). 8 * k) (length-take-le i xs le) in
-    let small : number_of (all_bits (take i xs)) < 2 ^ (8 * i) = subst (λ (k : ℕ). number_of (all_bits (take i xs)) < 2 ^ k) e (number_of-bound (all_bits (take i xs))) in
-    omega (arith, small, pow_below (8 * i) 56 (omega arith))

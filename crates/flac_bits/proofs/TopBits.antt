@@ -1,16 +1,11 @@
 -- A word whose top is bits.
-use Rattle.std.proofs.Common.{◌≡◌, ℕ, zero, suc, ◌+◌, ◌-◌, ◌*◌, ◌/◌, ◌%◌, ◌^◌, ◌<◌, ◌≤◌, true, false, [], ◌∷◌, ◌++◌, length, take, drop, refl, sym, ap, subst, ◌∙◌, arith, length-append}
+use Rattle.std.proofs.Common.{◌≡◌, ℕ, zero, suc, ◌+◌, ◌-◌, ◌*◌, ◌/◌, ◌%◌, ◌^◌, ◌<◌, ◌≤◌, [], ◌∷◌, ◌++◌, length, take, drop, refl, sym, ap, subst, ◌∙◌, arith}
 use Rattle.std.proofs.lemmas.List.{length-take-le, length-drop}
 use Rattle.std.proofs.lemmas.Nat.{pow-add, shr_high, mod_low, shl_below, shr-shr}
 use Rattle.spec_bits.specs.Bits.{Bits, number_of}
 use Rattle.flac_bits.specs.Windows.{IsTop}
 use Rattle.spec_bits.proofs.BitsLaws.{number_of-bound}
-
-pub number_of-append : (a b : Bits) → number_of (a ++ b) ≡ number_of a * 2 ^ length b + number_of b
-unfolding number_of
-number_of-append [] b = omega arith
-number_of-append (true ∷ a) b = let p = pow-add 2 (length a) (length b) in rw (length-append a b, p) (omega (arith, number_of-append a b))
-number_of-append (false ∷ a) b = omega (arith, number_of-append a b)
+use Rattle.spec_bits.proofs.JoinLaws.{number_of-append}
 
 abbrev pub no_bits : Bits
 no_bits = []

@@ -20,10 +20,10 @@ use Rattle.spec_rules.specs.Admitted.{type_of_role}
 use Rattle.spec_rules.proofs.NoFault.{element_none}
 use Rattle.spec_sequence.specs.ValueRole.{codec_role, role_of_codec, element_role, trim_of, role_of_nothing, plain_role, role_in}
 use Rattle.spec_sequence.proofs.RedundantCopies.{plain_of}
-use Rattle.obu_descriptors.specs.CodecView.{StandsForCoding, StandsForCodec}
-use Rattle.obu_descriptors.specs.declared.codec_config.CodecConfig.{CodecConfig}
-use Rattle.obu_descriptors.specs.declared.codec_config.Coding.{Coding}
-use Rattle.obu_descriptors.specs.declared.codec_config.Coding.TheVariants as coding
+use Rattle.obu_codec_config.specs.CodecView.{StandsForCoding, StandsForCodec}
+use Rattle.obu_codec_config.specs.declared.codec_config.CodecConfig.{CodecConfig}
+use Rattle.obu_codec_config.specs.declared.codec_config.Coding.{Coding}
+use Rattle.obu_codec_config.specs.declared.codec_config.Coding.TheVariants as coding
 use Rattle.obu_descriptors.specs.ElementView.{view_element}
 use Rattle.obu_mix.specs.SubMixView.{view_sub_mix}
 use Rattle.obu_data.specs.FrameReading.{trim_or_none}
@@ -68,7 +68,7 @@ plain_with : (h : Head) (content : Content) (p : Parts) (n : ℕ) (c : said.Cont
 plain_with h (contents.SequenceHeader x) p n c tail some parts holds type trims = rw holds.0 refl
 plain_with h (contents.CodecConfig r) p n c tail some parts holds type trims = rw holds.3 (ap roles.CodecConfig (codec_is r holds.0 holds.1))
 plain_with h (contents.AudioElement e) p n c tail some parts holds type trims = let defined = parts.definitions some in rw (holds.0, parts.channels, defined.are) refl
-plain_with h (contents.MixPresentation m) p n c tail some parts holds type trims = rw (holds.0, parts.elements, parts.definitions.are, length-map m.sub_mixes.items view_sub_mix) refl
+plain_with h (contents.MixPresentation m) p n c tail some parts holds type trims = rw (holds.0, parts.elements, parts.definitions.are, length-map m.value.sub_mixes.items view_sub_mix) refl
 plain_with h (contents.ParameterBlock b) p n c tail some parts holds type trims = rw holds.0 refl
 plain_with h (contents.TemporalDelimiter bytes) p n c tail some parts holds type trims = ap role_of_nothing type ∙ ap (λ (d : said.Content). plain_role h d tail) (sym holds.0)
 plain_with h (contents.AudioFrame f) p n c tail some parts holds type trims = rw (holds.0, holds.1, trims, same_trim h.trim) refl
@@ -149,7 +149,7 @@ made n (contents.Reserved bytes) some = tt
 bare : (l : List Role) (h : Head) (content : Content) (p : Parts) (n : ℕ) (c : said.Content) (tail : List ℕ) → codecs l ≡ [] → HasParts n content p → Holds content c tail → type_in content ≡ obu_type_of h.kind → HasTrims content h.trim
     → fault_after l (role_with content p) ≡ fault_after l (plain_role h c tail)
 bare l h (contents.AudioElement e) p n c tail none parts holds type trims =
-    rw holds.0 (no_codec l (element_role (view_element e)) (view_channels p.channels) (map view_definition p.definitions.items) none)
+    rw holds.0 (no_codec l (element_role (view_element e.value)) (view_channels p.channels) (map view_definition p.definitions.items) none)
 bare l h (contents.SequenceHeader x) p n c tail none parts holds type trims = ap (fault_after l) (plain_made h (contents.SequenceHeader x) p n c tail tt parts holds type trims)
 bare l h (contents.CodecConfig r) p n c tail none parts holds type trims = ap (fault_after l) (plain_made h (contents.CodecConfig r) p n c tail tt parts holds type trims)
 bare l h (contents.MixPresentation m) p n c tail none parts holds type trims = ap (fault_after l) (plain_made h (contents.MixPresentation m) p n c tail tt parts holds type trims)
@@ -161,7 +161,7 @@ bare l h (contents.Reserved bytes) p n c tail none parts holds type trims = ap (
 -- an element without a codec config is refused
 refused : (l : List Role) (h : Head) (content : Content) (c : said.Content) (tail : List ℕ) (n : ℕ) → codecs l ≡ [] → Holds content c tail → fault_after l (plain_role h c tail) ≡ None → HasMade n content
 refused l h (contents.AudioElement e) c tail n none holds late =
-    let d = element_role (view_element e) in
+    let d = element_role (view_element e.value) in
     absurd (unknown_codec (codecs l) d.codec none (element_none l d (ap (λ (x : said.Content). fault_after l (plain_role h x tail)) (sym holds.0) ∙ late)).2)
 refused l h (contents.SequenceHeader x) c tail n none holds late = tt
 refused l h (contents.CodecConfig r) c tail n none holds late = tt

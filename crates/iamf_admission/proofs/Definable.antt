@@ -16,7 +16,7 @@ use Rattle.spec_descriptors.proofs.ElementCounts.{each_all}
 use Rattle.spec_sequence.specs.ValueRole.{layers_of}
 use Rattle.obu_descriptors.specs.declared.audio_element.AudioElement.{AudioElement}
 use Rattle.obu_descriptors.specs.ParameterView.{view_param}
-use Rattle.obu_descriptors.specs.ConfigView.{view_config}
+use Rattle.obu_element_config.specs.ConfigView.{view_config}
 use Rattle.obu_descriptors.specs.ElementView.{view_element}
 use Rattle.obu_data.specs.ShapeView.{LastsAFrame}
 use Rattle.iamf_admission.specs.Defining.{CanDefine}

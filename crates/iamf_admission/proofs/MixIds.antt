@@ -1,9 +1,9 @@
 -- The ids of the elements that a mix names.
 use Rattle.std.proofs.Common.{◌≡◌, ℕ, List, [], ◌∷◌, ◌++◌, map, refl, ap, ◌∙◌}
 use Rattle.std.specs.List.{flat_map}
-use Rattle.obu_mix.specs.declared.mix_element.MixElement.{MixElement}
+use Rattle.obu_mix_elements.specs.declared.mix_element.MixElement.{MixElement}
 use Rattle.obu_mix.specs.declared.sub_mix.SubMix.{SubMix}
-use Rattle.obu_mix.specs.MixElementView.{view_mix_element}
+use Rattle.obu_mix_elements.specs.MixElementView.{view_mix_element}
 use Rattle.obu_mix.specs.SubMixView.{view_sub_mix}
 
 ids_viewed : (es : List MixElement) → map (λ e. e.element) es ≡ map (λ e. e.audio_element_id) (map view_mix_element es)

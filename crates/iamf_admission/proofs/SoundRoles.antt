@@ -9,7 +9,7 @@ use Rattle.spec_rules.specs.Role as roles
 use Rattle.spec_rules.specs.declared.codec_role.CodecRole.{CodecRole}
 use Rattle.spec_sequence.specs.ValueRole.{role_of_codec}
 use Rattle.spec_sequence.proofs.RoleNumbers.{role_length}
-use Rattle.obu_descriptors.specs.ConfigView.{view_config}
+use Rattle.obu_element_config.specs.ConfigView.{view_config}
 use Rattle.iamf_obu.specs.declared.content.Content.{Content}
 use Rattle.iamf_obu.specs.declared.content.Content.TheVariants as contents
 use Rattle.iamf_obu.specs.ContentView.{IsValidContent}
@@ -26,7 +26,7 @@ sound_codec w valid = (subst (λ (n : ℕ). 0 < n) (sym (role_length w.codec_con
 pub sound : (context : Context) (kind n : ℕ) (content : Content) (p : Parts) → IsValidContent context kind content → HasParts n content p → IsSound (role_with content p)
 sound context kind n (contents.SequenceHeader h) p valid parts = tt
 sound context kind n (contents.CodecConfig r) p valid parts = subst (λ (c : CodecRole). IsSound (roles.CodecConfig c)) (sym (codec_is r valid.0 valid.1)) (sound_codec valid.0 valid.2)
-sound context kind n (contents.AudioElement e) p valid parts = subst AreAllChannels (sym parts.channels) (of_config (view_config (length e.substreams.items) e.config))
+sound context kind n (contents.AudioElement e) p valid parts = subst AreAllChannels (sym parts.channels) (of_config (view_config (length e.value.substreams.items) e.value.config))
 sound context kind n (contents.MixPresentation m) p valid parts = tt
 sound context kind n (contents.ParameterBlock b) p valid parts = tt
 sound context kind n (contents.TemporalDelimiter bytes) p valid parts = tt

@@ -1,5 +1,5 @@
 -- The lines of the report on one more OBU.
-use Rattle.std.proofs.Common.{◌≡◌, ℕ, List, [], ◌∷◌, ◌++◌, inr, refl, sym, subst, ◌∙◌}
+use Rattle.std.proofs.Common.{Box, Global, ◌≡◌, ℕ, List, [], ◌∷◌, ◌++◌, inr, refl, sym, subst, ◌∙◌}
 use Rattle.spec_obu.specs.declared.obu_type.ObuType.{ObuType}
 use Rattle.spec_obu.specs.declared.obu_type.ObuType.TheVariants as types
 use Rattle.spec_values.specs.Content as said
@@ -13,8 +13,8 @@ use Rattle.spec_sequence.specs.Reading as reading
 use Rattle.spec_sequence.proofs.Roles.{values_more, roles_of_values}
 use Rattle.spec_sequence.proofs.RedundantCopies.{plain_of}
 use Rattle.obu_descriptors.specs.declared.audio_element.AudioElement.{AudioElement}
-use Rattle.obu_descriptors.specs.declared.codec_config.CodecConfig.{CodecConfig}
-use Rattle.obu_descriptors.specs.declared.sequence_header.SequenceHeader.{SequenceHeader}
+use Rattle.obu_codec_config.specs.declared.codec_config.CodecConfig.{CodecConfig}
+use Rattle.obu_codec_config.specs.declared.sequence_header.SequenceHeader.{SequenceHeader}
 use Rattle.obu_mix.specs.declared.mix_presentation.MixPresentation.{MixPresentation}
 use Rattle.obu_mix.specs.MixView.{tags_in, tail_of, IsValidMix}
 use Rattle.obu_mix.specs.TagView.{IsTagged}
@@ -48,8 +48,8 @@ IsNoDescriptor (contents.AudioElement e) = ⊥
 IsNoDescriptor (contents.MixPresentation m) = ⊥
 IsNoDescriptor _ = Unit {0}
 
-pub no_descriptor : (content : Content) → ((h : SequenceHeader) → content ≡ contents.SequenceHeader h → ⊥) → ((r : CodecConfig) → content ≡ contents.CodecConfig r → ⊥) → ((x : AudioElement) → content ≡ contents.AudioElement x → ⊥)
-    → ((m : MixPresentation) → content ≡ contents.MixPresentation m → ⊥) → IsNoDescriptor content
+pub no_descriptor : (content : Content) → ((h : SequenceHeader) → content ≡ contents.SequenceHeader h → ⊥) → ((r : CodecConfig) → content ≡ contents.CodecConfig r → ⊥) → ((x : Box AudioElement Global) → content ≡ contents.AudioElement x → ⊥)
+    → ((m : Box MixPresentation Global) → content ≡ contents.MixPresentation m → ⊥) → IsNoDescriptor content
 no_descriptor (contents.SequenceHeader h) header codec element mix = header h refl
 no_descriptor (contents.CodecConfig r) header codec element mix = codec r refl
 no_descriptor (contents.AudioElement x) header codec element mix = element x refl

@@ -8,11 +8,11 @@ use Rattle.spec_rules.specs.declared.codec.Codec.TheVariants as codec
 use Rattle.spec_rules.specs.declared.codec_role.CodecRole.{CodecRole}
 use Rattle.spec_sequence.specs.ValueRole.{element_role, mix_role, own_duration}
 use Rattle.obu_descriptors.specs.declared.audio_element.AudioElement.{AudioElement}
-use Rattle.obu_descriptors.specs.declared.codec_config.CodecConfig.{CodecConfig}
-use Rattle.obu_descriptors.specs.declared.codec_config.Coding.{Coding}
-use Rattle.obu_descriptors.specs.declared.codec_config.Coding.TheVariants as coding
+use Rattle.obu_codec_config.specs.declared.codec_config.CodecConfig.{CodecConfig}
+use Rattle.obu_codec_config.specs.declared.codec_config.Coding.{Coding}
+use Rattle.obu_codec_config.specs.declared.codec_config.Coding.TheVariants as coding
 use Rattle.obu_descriptors.specs.ElementView.{view_element}
-use Rattle.obu_descriptors.specs.ConfigView.{view_config}
+use Rattle.obu_element_config.specs.ConfigView.{view_config}
 use Rattle.obu_mix.specs.declared.mix_presentation.MixPresentation.{MixPresentation}
 use Rattle.obu_mix.specs.MixView.{view_mix}
 use Rattle.obu_data.specs.BlockView.{view_content}
@@ -37,8 +37,8 @@ pub record HasMixParts (m : MixPresentation) (p : Parts) : Type 0 where
   pub definitions : Defines [] p.definitions.items (mix_role (view_mix m)).definitions
 
 abbrev pub HasParts : ℕ → obu.Content → Parts → Type 0
-HasParts frame_length (contents.AudioElement e) p = HasElementParts frame_length e p
-HasParts frame_length (contents.MixPresentation m) p = HasMixParts m p
+HasParts frame_length (contents.AudioElement e) p = HasElementParts frame_length e.value p
+HasParts frame_length (contents.MixPresentation m) p = HasMixParts m.value p
 HasParts frame_length _ p = Unit {0}
 
 -- ---- its role
@@ -54,16 +54,16 @@ abbrev pub role_with : obu.Content → Parts → roles.Role
 role_with (contents.SequenceHeader h) p = roles.SequenceHeader h.primary
 role_with (contents.CodecConfig r) p = roles.CodecConfig (codec_role_in r)
 role_with (contents.AudioElement e) p = roles.AudioElement (record {
-  id = e.id;
-  codec = e.codec;
-  substreams = e.substreams.items;
+  id = e.value.id;
+  codec = e.value.codec;
+  substreams = e.value.substreams.items;
   channels = view_channels p.channels;
   definitions = map view_definition p.definitions.items;
 })
 role_with (contents.MixPresentation m) p = roles.MixPresentation (record {
-  id = m.id;
+  id = m.value.id;
   elements = p.elements.items;
-  sub_mixes = length m.sub_mixes.items;
+  sub_mixes = length m.value.sub_mixes.items;
   definitions = map view_definition p.definitions.items;
 })
 role_with (contents.ParameterBlock b) p = roles.ParameterBlock (record { id = b.id; duration = own_duration (view_content b.content) })

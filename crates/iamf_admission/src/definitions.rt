@@ -9,12 +9,12 @@ ghost use Rattle.spec_descriptors.specs.AudioElement.{Demixing, ReconGain, audio
 ghost use Rattle.spec_descriptors.specs.ElementFields.{audio_element_fields};
 ghost use Rattle.spec_sequence.specs.ValueRole.{layers_of, recon_flags_of, element_definition, gain_definition, sub_mix_definitions};
 ghost use Rattle.spec_sequence.specs.ValueRole as roles;
-ghost use Rattle.obu_descriptors.specs.TimingView.{view_fixed, view_timing};
-ghost use Rattle.obu_descriptors.specs.LayerView.{view_layer};
+ghost use Rattle.obu_timing.specs.TimingView.{view_fixed, view_timing};
+ghost use Rattle.obu_element_config.specs.LayerView.{view_layer};
 ghost use Rattle.obu_descriptors.specs.ParameterView.{view_param};
-ghost use Rattle.obu_descriptors.specs.ConfigView.{view_config};
+ghost use Rattle.obu_element_config.specs.ConfigView.{view_config};
 ghost use Rattle.obu_descriptors.specs.ElementView.{view_element};
-ghost use Rattle.obu_mix.specs.MixGainView.{view_mix_gain};
+ghost use Rattle.obu_mix_elements.specs.MixGainView.{view_mix_gain};
 ghost use Rattle.obu_mix.specs.SubMixView.{view_sub_mix};
 ghost use Rattle.obu_mix.specs.MixView.{view_mix};
 ghost use Rattle.obu_data.specs.DefinitionView.{view_definition};

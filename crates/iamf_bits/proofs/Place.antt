@@ -1,15 +1,15 @@
 -- A place in a part of a buffer, and the fields there.
-use Rattle.std.proofs.Common.{◌≡◌, ℕ, ℤ, zero, suc, ◌+◌, ◌-◌, ◌*◌, ◌/◌, ◌<◌, ◌≤◌, Bool, true, false, ltb, List, [], ◌∷◌, length, get_or, take, drop, Result, Ok, Err, refl, sym, ap, ◌∙◌, arith}
+use Rattle.std.proofs.Common.{◌≡◌, ℕ, zero, suc, ◌+◌, ◌-◌, ◌*◌, ◌/◌, ◌<◌, ◌≤◌, Bool, true, false, ltb, List, [], ◌∷◌, length, get_or, take, drop, Result, Ok, Err, refl, sym, ap, ◌∙◌, arith}
 use Rattle.std.specs.Prelude.{slice_range}
 use Rattle.std.proofs.lemmas.Bool.{lt-ltb, le-ltb}
 use Rattle.std.proofs.lemmas.List.{length-take-le, length-drop, drop-drop, drop-take}
 use Rattle.spec_bits.specs.declared.FieldFault.{FieldFault}
 use Rattle.spec_bits.specs.declared.FieldFault.TheVariants.{Short}
-use Rattle.spec_bits.specs.Bits.{Bits, AreBytes, number_of, all_bits, signed_of}
+use Rattle.spec_bits.specs.Bits.{Bits, AreBytes, number_of, all_bits}
 use Rattle.spec_bits.specs.ByteReading.{◌>>=◌, leb_at, text_at, bytes_at}
-use Rattle.spec_bits.specs.Form.{Number, Signed, Leb128, String, Bytes, Reserved}
+use Rattle.spec_bits.specs.Form.{Number, Leb128, String, Bytes, Reserved}
 use Rattle.spec_bits.specs.Cursor.{Cursor, bits_left, bytes_left, bytes_of, moved, field_at, field_front, in_bytes}
-use Rattle.spec_bits.proofs.Outcomes.{done, ok_is, ok_both_is}
+use Rattle.spec_bits.proofs.Outcomes.{done, ok_both_is}
 use Rattle.spec_bits.proofs.BitsLaws.{length-all_bits, drop-all_bits}
 use Rattle.spec_bits.proofs.ByteForms.{bytes_of-all_bits}
 
@@ -62,30 +62,6 @@ number_found buf end at used n v le within enough is =
     let t : ltb (length (bits_left (cursor buf end at used))) n ≡ false = le-ltb _ _ (omega (arith, length-bits_left buf end at used le within)) in
     let value : number_of (take n (bits_left (cursor buf end at used))) ≡ v = ap (λ (b : Bits). number_of (take n b)) (bits_left-is buf end at used le) ∙ is in
     rw (t, value) refl
-
-abbrev one_of : {A : Type 0} → Bool → A → Result A FieldFault
-one_of b x = elim b [ true ↦ Err Short | false ↦ Ok x ]
-
--- the same bits as a number in two's complement
-signed_same : (k : ℕ) (b : Bool) (front : Bits) (v : ℕ) (c d : Cursor) → one_of {A = ℕ × Cursor} b (number_of front, c) ≡ Ok (v, d) → one_of {A = ℤ × Cursor} b (signed_of k (number_of front), c) ≡ Ok (signed_of k v, d)
-signed_same k true front v c d e = absurd cc
-signed_same k false front v c d e = ap (λ (x : ℕ × Cursor). Ok (signed_of k x.0, x.1)) (ok_is {F = FieldFault} (number_of front, c) (v, d) e)
-
-pub signed_there : (k v : ℕ) (c d : Cursor) → field_at (Number k) c ≡ Ok (v, d) → field_at (Signed k) c ≡ Ok (signed_of k v, d)
-unfolding field_at field_front
-signed_there k v c d e = go (ltb (length (bits_left c)) k) refl
-  where
-    go : (b : Bool) → ltb (length (bits_left c)) k ≡ b → field_at (Signed k) c ≡ Ok (signed_of k v, d)
-    go true t = absurd (let no = rw t at e in cc)
-    go false t = rw t (signed_same k false (take k (bits_left c)) v (moved c k) d (rw t at e))
-
-pub signed_short : (k : ℕ) (c : Cursor) (f : FieldFault) → field_at (Number k) c ≡ Err f → field_at (Signed k) c ≡ Err f
-unfolding field_at field_front
-signed_short k c f e = go (ltb (length (bits_left c)) k) refl
-  where
-    go : (b : Bool) → ltb (length (bits_left c)) k ≡ b → field_at (Signed k) c ≡ Err f
-    go true t = rw t (let same = rw t at e in cc)
-    go false t = absurd (let no = rw t at e in cc)
 
 -- the same bits, whatever they are
 pub reserved_there : (k v : ℕ) (c d : Cursor) → field_at (Number k) c ≡ Ok (v, d) → field_at (Reserved k) c ≡ Ok (tt, d)

@@ -13,10 +13,10 @@ use Rattle.spec_demix.specs.declared.DemixLayer.{DemixLayer}
 use Rattle.spec_demix.specs.Elements.{demix_layers_of}
 use Rattle.spec_demix.specs.FixedWalk.{fixed_value}
 use Rattle.spec_demix.specs.Scenes.{IsWhole}
-use Rattle.obu_descriptors.specs.declared.config.ElementConfig.{ElementConfig}
-use Rattle.obu_descriptors.specs.declared.config.ElementConfig.TheVariants as kept
-use Rattle.obu_descriptors.specs.LayerView.{view_layer}
-use Rattle.obu_descriptors.specs.ConfigView.{view_config}
+use Rattle.obu_element_config.specs.declared.config.ElementConfig.{ElementConfig}
+use Rattle.obu_element_config.specs.declared.config.ElementConfig.TheVariants as kept
+use Rattle.obu_element_config.specs.LayerView.{view_layer}
+use Rattle.obu_element_config.specs.ConfigView.{view_config}
 use Rattle.demix_channels.specs.declared.params.DemixParams.{DemixParams}
 use Rattle.spec_play.specs.declared.target.Target.{Target}
 use Rattle.spec_play.specs.declared.target.Target.TheVariants as target

@@ -6,9 +6,9 @@ use Rattle.spec_descriptors.specs.CodecConfig.{CodingFields, Flac, CodecConfigFi
 use Rattle.spec_sequence.specs.ValueRole.{codec_role}
 use Rattle.spec_play.specs.CodedSamples.{frame_sample, flac_rows}
 use Rattle.spec_play.specs.Laws.{IsCodedBy}
-use Rattle.obu_descriptors.specs.declared.codec_config.Coding.{Coding}
-use Rattle.obu_descriptors.specs.declared.codec_config.Coding.TheVariants as coding
-use Rattle.obu_descriptors.specs.CodecView.{StandsForCoding}
+use Rattle.obu_codec_config.specs.declared.codec_config.Coding.{Coding}
+use Rattle.obu_codec_config.specs.declared.codec_config.Coding.TheVariants as coding
+use Rattle.obu_codec_config.specs.CodecView.{StandsForCoding}
 use Rattle.iamf_channels.specs.Decoded.{IsStream, shape_by, IsFrameBy, sample_by}
 
 abbrev config : (id frame_length : ℕ) → CodingFields → CodecConfigFields

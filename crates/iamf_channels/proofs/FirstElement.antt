@@ -4,8 +4,8 @@ use Rattle.std.specs.Prelude.{sum_by, unwrap_or, IsTrue, MatchOption}
 use Rattle.std.specs.List.{All, list_any}
 use Rattle.std.proofs.lemmas.Bool.{not-false}
 use Rattle.std.proofs.lemmas.List.{length-map}
-use Rattle.obu_descriptors.specs.declared.layer.Layer.{Layer}
-use Rattle.obu_descriptors.specs.LayerView.{view_layer}
+use Rattle.obu_element_config.specs.declared.layer.Layer.{Layer}
+use Rattle.obu_element_config.specs.LayerView.{view_layer}
 use Rattle.std.proofs.lemmas.Option.{get_or_from_slice_get}
 use Rattle.spec_samples.specs.Lpcm.{is_depth}
 use Rattle.spec_layouts.specs.declared.Layout.{Layout}

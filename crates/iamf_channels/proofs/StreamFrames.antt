@@ -9,8 +9,8 @@ use Rattle.spec_sequence.specs.Parts.{FrameValue, UnitValue}
 use Rattle.spec_play.specs.CodedSamples.{frame_sample}
 use Rattle.spec_play.specs.Laws.{IsCodedBy}
 use Rattle.obu_data.specs.declared.frame.FrameView.{FrameView}
-use Rattle.obu_descriptors.specs.declared.codec_config.CodecConfig.{CodecConfig}
-use Rattle.obu_descriptors.specs.CodecView.{StandsForCoding, StandsForCodec}
+use Rattle.obu_codec_config.specs.declared.codec_config.CodecConfig.{CodecConfig}
+use Rattle.obu_codec_config.specs.CodecView.{StandsForCoding, StandsForCodec}
 use Rattle.iamf_sequence.specs.UnitView.{view_frame, frame_with, FindsFrame}
 use Rattle.iamf_channels.specs.Decoded.{IsStream, IsFrameBy, sample_by}
 use Rattle.iamf_channels.proofs.CodedFrames.{coded_by, same_samples}

@@ -16,9 +16,9 @@ use Rattle.spec_demix.specs.Sent.{IsLayers}
 use Rattle.spec_demix.specs.Fits.{target_channels}
 use Rattle.spec_demix.specs.FixedWalk.{fixed_row, fixed_value}
 use Rattle.mix_fixed.specs.Kernel.{target_of}
-use Rattle.obu_descriptors.specs.declared.layer.Layer.{Layer}
-use Rattle.obu_descriptors.specs.declared.layer.OutputGain.{OutputGain}
-use Rattle.obu_descriptors.specs.LayerView.{view_gain, view_layer}
+use Rattle.obu_element_config.specs.declared.layer.Layer.{Layer}
+use Rattle.obu_element_config.specs.declared.layer.OutputGain.{OutputGain}
+use Rattle.obu_element_config.specs.LayerView.{view_gain, view_layer}
 use Rattle.demix_channels.specs.Gains.{IsModestGain, IsModestLayer}
 use Rattle.spec_play.specs.declared.target.Target.{Target}
 use Rattle.spec_play.specs.declared.target.Target.TheVariants as target

@@ -7,7 +7,7 @@ use Rattle.spec_demix.specs.FixedWalk.{fixed_row}
 use Rattle.mix_fixed.specs.Kernel.{target_of}
 use Rattle.demix_channels.specs.declared.params.DemixParams.{DemixParams}
 use Rattle.demix_layers.specs.SceneView.{IsPlayed}
-use Rattle.obu_descriptors.specs.declared.config.ElementConfig.{ElementConfig}
+use Rattle.obu_element_config.specs.declared.config.ElementConfig.{ElementConfig}
 use Rattle.iamf_mixing.specs.Scenes.{scene_units}
 
 -- there is a sum for each channel, and a coded sample for each that is needed

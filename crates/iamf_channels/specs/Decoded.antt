@@ -7,8 +7,8 @@ use Rattle.spec_descriptors.specs.CodecConfig.{CodecConfigFields}
 use Rattle.spec_sequence.specs.Parts.{UnitValue}
 use Rattle.spec_play.specs.CodedSamples.{frame_sample, flac_rows, stream_bytes}
 use Rattle.iamf_bits.specs.Rows.{Rows, sample_of}
-use Rattle.obu_descriptors.specs.declared.codec_config.Coding.{Coding}
-use Rattle.obu_descriptors.specs.declared.codec_config.Coding.TheVariants as coding
+use Rattle.obu_codec_config.specs.declared.codec_config.Coding.{Coding}
+use Rattle.obu_codec_config.specs.declared.codec_config.Coding.TheVariants as coding
 
 abbrev pub no_rows : Rows
 no_rows = record { channels = 0; length = 0; samples = [] }

@@ -5,7 +5,7 @@ ghost use Rattle.spec_descriptors.specs.AudioElement.{substream_channels_of, cod
 ghost use Rattle.spec_demix.specs.Elements.{demix_layers_of};
 ghost use Rattle.spec_demix.specs.Sent.{IsLayers};
 ghost use Rattle.obu_descriptors.specs.ElementView.{view_element};
-ghost use Rattle.obu_descriptors.specs.LayerView.{view_layer};
+ghost use Rattle.obu_element_config.specs.LayerView.{view_layer};
 ghost use Rattle.demix_channels.specs.Gains.{HaveModestGains};
 ghost use Rattle.spec_syntax.specs.Payload.{IsValid};
 ghost use Rattle.spec_descriptors.specs.AudioElement.{audio_element};

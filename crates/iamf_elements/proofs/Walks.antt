@@ -3,8 +3,8 @@ use Rattle.std.proofs.Common.{arith, ◌≡◌, ◌<◌, ◌≤◌, ◌+◌, ◌
 use Rattle.std.specs.List.{list_any, flat_map}
 use Rattle.std.proofs.lemmas.List.{take_all}
 use Rattle.spec_layouts.specs.declared.Layout.{Layout}
-use Rattle.obu_descriptors.specs.declared.layer.Layer.{Layer}
-use Rattle.obu_descriptors.specs.LayerView.{view_layer}
+use Rattle.obu_element_config.specs.declared.layer.Layer.{Layer}
+use Rattle.obu_element_config.specs.LayerView.{view_layer}
 use Rattle.demix_channels.proofs.SeenLayers.{no_layer}
 use Rattle.spec_play.specs.UsedLayers.{is_of, layers_up_to, is_mixed_down, need_parameters}
 

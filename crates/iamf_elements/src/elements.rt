@@ -3,7 +3,7 @@
 ghost use Rattle.std.specs.Prelude.{◌≡◌, map, not};
 ghost use Rattle.std.specs.List.{list_any};
 ghost use Rattle.std.specs.Option.{option_to_list};
-ghost use Rattle.obu_descriptors.specs.LayerView.{view_layer};
+ghost use Rattle.obu_element_config.specs.LayerView.{view_layer};
 ghost use Rattle.obu_descriptors.specs.ElementView.{view_element};
 ghost use Rattle.spec_play.specs.UsedLayers.{is_of, used_layers};
 ghost use Rattle.spec_play.specs.Waves.{outputs_in};

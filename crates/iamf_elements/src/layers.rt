@@ -2,7 +2,7 @@
 
 ghost use Rattle.std.specs.Prelude.{◌≡◌, map, option_map};
 ghost use Rattle.std.specs.List.{list_any};
-ghost use Rattle.obu_descriptors.specs.LayerView.{view_gain, view_layer};
+ghost use Rattle.obu_element_config.specs.LayerView.{view_gain, view_layer};
 ghost use Rattle.spec_play.specs.UsedLayers.{is_of, layers_up_to, is_mixed_down, need_parameters};
 ghost use Rattle.spec_play.specs.Selection.{has_recon, is_output_gain_above};
 

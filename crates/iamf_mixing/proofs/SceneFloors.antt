@@ -9,8 +9,8 @@ use Rattle.spec_demix.specs.Scenes.{scene_top, scene_bottom}
 use Rattle.spec_demix.proofs.FloorLemmas.{floor-low, floor-high, distribute, mul-ordered, swapped, swapped_left}
 use Rattle.demix_layers.proofs.Floors.{int_ordered}
 use Rattle.demix_layers.specs.SceneView.{IsPlayed, IsOutput}
-use Rattle.obu_descriptors.specs.declared.config.ElementConfig.{ElementConfig}
-use Rattle.obu_descriptors.specs.declared.config.ElementConfig.TheVariants as config
+use Rattle.obu_element_config.specs.declared.config.ElementConfig.{ElementConfig}
+use Rattle.obu_element_config.specs.declared.config.ElementConfig.TheVariants as config
 use Rattle.iamf_mixing.specs.Scenes.{output_units, scene_units}
 
 not_below : (x y : ℤ) (n m : ℕ) → 0 < n → 0 < m → x *ℤ pos m ≡ y *ℤ pos n → floor_of x n <ℤ floor_of y m → ⊥

@@ -1,8 +1,8 @@
 -- The gains of a row of ticks once a block stands over it.
 use Rattle.std.specs.Prelude.{ℕ, ◌-◌, List, map, if◌then◌else◌}
 use Rattle.std.specs.List.{zip}
-use Rattle.obu_descriptors.specs.declared.timing.Fixed.{Fixed}
-use Rattle.obu_descriptors.specs.TimingView.{view_fixed}
+use Rattle.obu_timing.specs.declared.timing.Fixed.{Fixed}
+use Rattle.obu_timing.specs.TimingView.{view_fixed}
 use Rattle.obu_data.specs.declared.gain_part.GainPart.{GainPart}
 use Rattle.obu_data.specs.BlockView.{view_gain_part}
 use Rattle.spec_play.specs.GainsOverTime.{GainBlock, TimedBlock, covers, subblock_gain, subblock_durations}

@@ -4,8 +4,8 @@ use Rattle.spec_descriptors.specs.Ambisonics as fields
 use Rattle.spec_descriptors.specs.Ambisonics.{AmbisonicsFields}
 use Rattle.spec_demix.specs.Floor.{floor_of, unit}
 use Rattle.spec_demix.specs.Scenes.{scene_top, scene_bottom}
-use Rattle.obu_descriptors.specs.declared.config.ElementConfig.{ElementConfig}
-use Rattle.obu_descriptors.specs.declared.config.ElementConfig.TheVariants.{Scalable, Mono, Projection, Other}
+use Rattle.obu_element_config.specs.declared.config.ElementConfig.{ElementConfig}
+use Rattle.obu_element_config.specs.declared.config.ElementConfig.TheVariants.{Scalable, Mono, Projection, Other}
 
 -- output c, rounded down
 abbrev pub output_units : AmbisonicsFields → List ℤ → ℕ → ℤ

@@ -2,14 +2,14 @@
 
 ghost use Rattle.std.specs.Prelude.{◌≡◌, [], ◌∷◌, None, Some, MatchOption};
 ghost use Rattle.obu_data.specs.BlockView.{view_block};
-ghost use Rattle.obu_mix.specs.MixGainView.{view_mix_gain};
+ghost use Rattle.obu_mix_elements.specs.MixGainView.{view_mix_gain};
 ghost use Rattle.spec_sequence.specs.Parts.{BlockValue};
 ghost use Rattle.spec_play.specs.GainsOverTime.{gain_block_of};
 ghost use Rattle.iamf_mixing.specs.Rows.{block_of};
 
 use obu_data::{BlockContent, GainPart, ParameterBlock};
-use obu_descriptors::Fixed;
-use obu_mix::MixGain;
+use obu_mix_elements::MixGain;
+use obu_timing::Fixed;
 
 /// A block's own timing, or that of the definition where it has none.
 fn timing_of<'b>(own: &'b Option<Fixed>, defined: &'b Option<Fixed>) -> Option<&'b Fixed>

@@ -3,7 +3,7 @@
 
 ghost use Rattle.std.specs.Prelude.{◌≡◌, ℕ, ◌+◌, ◌-◌, ◌*◌, ◌/◌, ◌^◌, ◌<◌, ◌≤◌, length, map, min, slice_index};
 ghost use Rattle.spec_gains.specs.Gains.{gain_of};
-ghost use Rattle.obu_descriptors.specs.TimingView.{view_fixed};
+ghost use Rattle.obu_timing.specs.TimingView.{view_fixed};
 ghost use Rattle.obu_data.specs.BlockView.{view_gain_part};
 ghost use Rattle.spec_play.specs.GainsOverTime.{part_gain, subblock_durations};
 ghost use Rattle.iamf_mixing.specs.Rows.{timed_block, gain_over};
@@ -11,7 +11,7 @@ ghost use Rattle.iamf_mixing.specs.Rows.{timed_block, gain_over};
 use crate::sums::ONE;
 use iamf_tables::gain;
 use obu_data::GainPart;
-use obu_descriptors::Fixed;
+use obu_timing::Fixed;
 
 /// A straight line between two gains.
 #[derive(Clone, Copy)]

@@ -9,7 +9,7 @@ ghost use Rattle.iamf_mixing.specs.Sums.{base};
 
 use crate::sums::gained;
 use demix_layers::{scene_exact, to_units};
-use obu_descriptors::ElementConfig;
+use obu_element_config::ElementConfig;
 
 /// Output `c`, rounded down.
 fn scene_output(config: &ElementConfig<'_>, coded: &[i64], c: usize) -> i128

@@ -10,7 +10,7 @@ ghost use Rattle.iamf_mixing.specs.Rows.{block_of};
 use crate::gains::fill_block;
 use iamf_tables::gain;
 use obu_data::GainPart;
-use obu_descriptors::Fixed;
+use obu_timing::Fixed;
 
 /// How far a player has come with the parameter blocks of a mix gain, which follow each other in time: each starts with its
 /// unit or where the one before it ends, whichever is later (IAMF 1.0.0, "Parameter Block OBU Syntax and Semantics").

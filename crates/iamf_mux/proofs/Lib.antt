@@ -5,3 +5,5 @@ pub mod Runs
 pub mod FedTracks
 pub mod Movies
 pub mod BareSize
+pub mod BareTracks
+pub mod Ranges

@@ -35,10 +35,10 @@ use Rattle.spec_bodies.proofs.SpelledRoles.{roles_are}
 use Rattle.spec_bodies.proofs.OneMore.{size}
 use Rattle.spec_bodies.proofs.BodyLaws.{unit_count_is, written_holds}
 use Rattle.spec_bodies.proofs.Rebuilding.{rebuilds}
-use Rattle.obu_descriptors.specs.declared.codec_config.Coding.{Coding}
-use Rattle.obu_descriptors.specs.declared.codec_config.Coding.TheVariants.{Lpcm, Flac}
-use Rattle.obu_descriptors.specs.declared.codec_config.CodecConfig.{CodecConfig}
-use Rattle.obu_descriptors.specs.CodecView.{StandsForCoding, StandsForCodec}
+use Rattle.obu_codec_config.specs.declared.codec_config.Coding.{Coding}
+use Rattle.obu_codec_config.specs.declared.codec_config.Coding.TheVariants.{Lpcm, Flac}
+use Rattle.obu_codec_config.specs.declared.codec_config.CodecConfig.{CodecConfig}
+use Rattle.obu_codec_config.specs.CodecView.{StandsForCoding, StandsForCodec}
 use Rattle.mp4_file.specs.Slices.{joined, cut}
 use Rattle.iamf_sequence.specs.SequenceValue.{SequenceValue}
 use Rattle.iamf_mux.specs.Gathering.{Slices, AreObusOf, IsGathered}

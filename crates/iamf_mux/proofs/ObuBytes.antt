@@ -1,5 +1,5 @@
 -- The bytes of an OBU of a sequence, where its view stands.
-use Rattle.std.proofs.Common.{◌≡◌, ℕ, zero, suc, ◌+◌, ◌-◌, ◌≤◌, ◌<◌, List, [], ◌∷◌, ◌++◌, length, take, drop, refl, sym, ap, ap₂, subst, ◌∙◌, append_assoc, append-nil, length-append, arith}
+use Rattle.std.proofs.Common.{◌≡◌, ℕ, zero, suc, ◌+◌, ◌-◌, ◌≤◌, ◌<◌, List, [], ◌∷◌, ◌++◌, length, take, drop, refl, sym, ap, ap₂, subst, ◌∙◌, append_assoc, append-nil, length-append, length-drop, add-one, arith}
 use Rattle.std.specs.Prelude.{Some, None, slice_get, slice_range, if◌then◌else◌}
 use Rattle.std.specs.Option.{option_map}
 use Rattle.std.proofs.lemmas.List.{take-append-drop, take-map, length-take}
@@ -85,6 +85,8 @@ pub record StandsAt (v : SequenceValue) (os : List Spelled) (i : ℕ) (view : Ob
   pub admits : Admits (take i os) splits.o
   pub head : head_of view.head ≡ splits.o.value.head
   pub bytes : slice_range v.bytes view.at view.end ≡ splits.o.bytes
+  pub from : view.at ≡ length (bytes_of (take i os))
+  pub to : view.end ≤ length (bytes_of (take (i + 1) os))
   pub number : unit_of (roles v.entries) i ≡ number (take i os) splits.o
   pub room : length (bytes_of (take i os)) + length splits.o.bytes ≤ length v.bytes
 
@@ -104,6 +106,8 @@ stands_at v os i view are less is = record {
   admits = admits os i s are.are.admitted;
   head = is.head ∙ ap (λ (e : Entry). e.value.head) entry;
   bytes = fronts.bytes;
+  from = sym at;
+  to = up_to;
   number = ap (λ (l : List Role). unit_of l i) (ap roles (sym are.entries_are) ∙ roles_are os) ∙ unit_at_is os i s.o s.there;
   room = omega (arith, ap length whole, length-append (bytes_of (take i os)) (s.o.bytes ++ bytes_of s.rest), length-append s.o.bytes (bytes_of s.rest));
 } where
@@ -134,3 +138,10 @@ stands_at v os i view are less is = record {
   fronts : Same (head_of view.head) s.o.value.head view.payload.now s.o.payload (take (view.end - view.at) (drop view.at v.bytes)) s.o.bytes (drop (view.end - view.at) (drop view.at v.bytes)) (bytes_of s.rest)
   fronts = same_front (head_of view.head) s.o.value.head view.payload.now s.o.payload (take (view.end - view.at) (drop view.at v.bytes)) s.o.bytes (drop (view.end - view.at) (drop view.at v.bytes)) (bytes_of s.rest)
       is.header (admits os i s are.are.admitted).spelled.header (take-append-drop (view.end - view.at) (drop view.at v.bytes) ∙ back)
+
+  next : bytes_of (take (i + 1) os) ≡ bytes_of (take i os) ++ (s.o.bytes ++ [])
+  next = ap (λ (n : ℕ). bytes_of (take n os)) (add-one i) ∙ ap bytes_of s.more ∙ bytes-append (take i os) (s.o ∷ [])
+
+  -- the OBU has as many bytes as its range
+  up_to : view.end ≤ length (bytes_of (take (i + 1) os))
+  up_to = omega (arith, at, is.onward, is.within, length-take (view.end - view.at) (drop view.at v.bytes), length-drop view.at v.bytes, ap length fronts.bytes, ap length next, length-append (bytes_of (take i os)) (s.o.bytes ++ []), length-append s.o.bytes [])

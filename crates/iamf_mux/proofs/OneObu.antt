@@ -6,7 +6,7 @@ use Rattle.std.proofs.lemmas.List.{length-map, take_all}
 use Rattle.spec_rules.specs.Units.{unit_of}
 use Rattle.spec_rules.proofs.Placing.{unit_count-none}
 use Rattle.spec_sequence.specs.Reading.{roles, context_after}
-use Rattle.spec_bodies.specs.Spelled.{Spelled, entry_of, role_of, entries_of}
+use Rattle.spec_bodies.specs.Spelled.{Spelled, entry_of, role_of, entries_of, bytes_of}
 use Rattle.spec_bodies.proofs.Sequences.{spelled, ended}
 use Rattle.spec_bodies.proofs.SpelledRoles.{no_fault}
 use Rattle.spec_bodies.proofs.OneMore.{descriptors-none, units-none}
@@ -17,7 +17,7 @@ use Rattle.obu_header.specs.View.{head_of}
 use Rattle.iamf_sequence.specs.Places.{IsObuAt}
 use Rattle.iamf_sequence.specs.SequenceValue.{SequenceValue, IsRead}
 use Rattle.iamf_mux.specs.declared.gathered.Gathered.{Gathered}
-use Rattle.iamf_mux.specs.Gathering.{Slices, slices_of, no_slices, with_obu, AreObusOf, IsGathered, IsGatheredUpTo, IsGatheredOf}
+use Rattle.iamf_mux.specs.Gathering.{Slices, slices_of, no_slices, with_obu, AreObusOf, IsGathered, IsGatheredUpTo, IsGatheredOf, AreSliced}
 use Rattle.iamf_mux.proofs.Gathers.{IsLastOrNext, gathers, at_last, total}
 use Rattle.iamf_mux.proofs.ObuBytes.{Admits, stands_at}
 
@@ -74,8 +74,15 @@ on_ok (Err e) p step = tt
 
 -- ---- none, and all
 
-pub begun_of : (v : SequenceValue) (g : Gathered) → g.bytes.now ≡ v.bytes → IsRead v.bytes v.entries → slices_of g ≡ no_slices → IsGatheredUpTo v 0 g
-begun_of v g same is none = let found = obus_of v is in record { same = same; obus = found.0; are = found.1; gathered = subst (λ (x : Slices). IsGathered x []) (sym none) gathered_none }
+pub begun_of : (v : SequenceValue) (g : Gathered) → g.bytes.now ≡ v.bytes → IsRead v.bytes v.entries → slices_of g ≡ no_slices → AreSliced g 0 → IsGatheredUpTo v 0 g
+begun_of v g same is none sliced = let found = obus_of v is in record { same = same; obus = found.0; are = found.1; gathered = subst (λ (x : Slices). IsGathered x []) (sym none) gathered_none; sliced = sliced }
+
+-- a view begins where the OBUs before it end, and ends with it
+pub begins_at : (v : SequenceValue) (os : List Spelled) (i : ℕ) (view : ObuView) → AreObusOf v os → i < length os → IsObuAt v i view → view.at ≡ length (bytes_of (take i os))
+begins_at v os i view are less is = (stands_at v os i view are less is).from
+
+pub ends_at : (v : SequenceValue) (os : List Spelled) (i : ℕ) (view : ObuView) → AreObusOf v os → i < length os → IsObuAt v i view → view.end ≤ length (bytes_of (take (i + 1) os))
+ends_at v os i view are less is = (stands_at v os i view are less is).to
 
 pub ended_of : (v : SequenceValue) (i : ℕ) (g : Gathered) → i ≡ length v.entries → IsGatheredUpTo v i g → IsGatheredOf v (slices_of g)
 ended_of v i g end h = record { obus = h.obus; are = h.are; gathered = all_at v h.obus (slices_of g) i h.are end h.gathered }

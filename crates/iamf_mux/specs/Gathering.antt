@@ -1,5 +1,5 @@
 -- What is gathered of a sequence for its file, OBU by OBU.
-use Rattle.std.specs.Prelude.{◌≡◌, ℕ, ◌+◌, ◌==◌, Bool, not, ◌&&◌, if◌then◌else◌, List, [], ◌∷◌, ◌++◌, length, map, take, slice_index, slice_range, slice_set, Option, Some, None}
+use Rattle.std.specs.Prelude.{◌≡◌, ℕ, ◌+◌, ◌≤◌, ◌==◌, Bool, not, ◌&&◌, if◌then◌else◌, List, [], ◌∷◌, ◌++◌, length, map, take, slice_index, slice_range, slice_set, Option, Some, None}
 use Rattle.spec_obu.specs.Kinds.{obu_type_of, is_descriptor}
 use Rattle.spec_obu.specs.Header.{Head}
 use Rattle.spec_boxes.specs.ObuLists.{delimits}
@@ -9,6 +9,7 @@ use Rattle.spec_bodies.specs.SequenceBody.{units, descriptors}
 use Rattle.iamf_sequence.specs.SequenceValue.{SequenceValue}
 use Rattle.mp4_file.specs.Slices.{joined}
 use Rattle.iamf_mux.specs.declared.gathered.Gathered.{Gathered}
+use Rattle.iamf_mux.specs.Ranges.{AreRanges, parts}
 
 -- the bytes of the descriptors and of all units, and how many of the latter each unit has
 pub record Slices : Type 0 where
@@ -50,6 +51,10 @@ abbrev pub with_obu : Head → Option ℕ → List ℕ → Slices → Slices
 with_obu h (Some unit) bytes s = if delimits (obu_type_of h.kind) then with_unit unit s else with_data unit bytes (with_unit unit s)
 with_obu h None bytes s = if not h.redundant && is_descriptor (obu_type_of h.kind) then with_descriptor bytes s else s
 
+-- The slices of the units are ranges of the bytes, the last apart from the others, and all end before a place or at it.
+abbrev pub AreSliced : Gathered → ℕ → Type 0
+AreSliced g place = AreRanges g.bytes.now 0 (parts g.units.items) g.start × (g.end ≤ place)
+
 -- These are the OBUs of a sequence.
 pub record AreObusOf (v : SequenceValue) (os : List Spelled) : Type 0 where
   pub bytes_are : v.bytes ≡ bytes_of os
@@ -68,6 +73,7 @@ pub record IsGatheredUpTo (v : SequenceValue) (i : ℕ) (g : Gathered) : Type 0 
   pub obus : List Spelled
   pub are : AreObusOf v obus
   pub gathered : IsGathered (slices_of g) (take i obus)
+  pub sliced : AreSliced g (length (bytes_of (take i obus)))
 
 pub record IsGatheredOf (v : SequenceValue) (s : Slices) : Type 0 where
   pub obus : List Spelled

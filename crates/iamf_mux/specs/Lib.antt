@@ -1,3 +1,4 @@
+pub mod Ranges
 pub mod Gathering
 pub mod Rates
 pub mod Demuxing

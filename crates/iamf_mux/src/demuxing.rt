@@ -4,7 +4,7 @@ ghost use Rattle.std.specs.Prelude.{◌+◌, ◌≤◌, ◌^◌, ◌++◌, ℕ, 
 ghost use Rattle.spec_values.specs.Value.{ObuValue};
 ghost use Rattle.spec_sequence.specs.Reading.{Reads};
 ghost use Rattle.iamf_sequence.specs.Places.{IsRefused};
-ghost use Rattle.iamf_mux.specs.Demuxing.{bare, Demuxes, FindsBare};
+ghost use Rattle.iamf_mux.specs.Demuxing.{bare, Demuxes, FindsTrack};
 ghost use Rattle.iamf_stream.specs.Feeding.{Knows};
 
 use iamf_sequence::{DecodeError, Refusal};
@@ -58,15 +58,15 @@ fn check(alloc: Global, track: &Track<'_>) -> Result<(), DecodeError>
     }
 }
 
-/// The IAMF track of an MP4 file of at most 2^30 bytes, where its descriptors and then each sample after a temporal
-/// delimiter are a sequence (IAMF 1.0.0, "ISOBMFF IAMF Encapsulation"). That is not built.
+/// The IAMF track of an MP4 file of at most 2^30 bytes, as `audio_track` answers it, where its descriptors and then each
+/// sample after a temporal delimiter are a sequence (IAMF 1.0.0, "ISOBMFF IAMF Encapsulation"). That is not built.
 ///
 /// # Errors
 ///
 /// As `demux`.
 pub fn sequence_track(alloc: Global, file: &[u8]) -> Result<Track<'_>, DemuxError>
     requires { length file.now ≤ 2 ^ 30 }
-    ensures { FindsBare file.now result }
+    ensures { FindsTrack file.now result }
 {
     let track = match audio_track(file) {
         Ok(track) => track,

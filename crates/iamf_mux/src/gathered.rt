@@ -21,14 +21,16 @@ pub struct Gathered<'a> {
 }
 
 impl<'a> Gathered<'a> {
-    ghost use Rattle.std.specs.Prelude.{◌⊎◌, ◌+◌, ◌<◌, ◌^◌, [], sum, slice_range, OnOk, IfSome};
+    ghost use Rattle.std.specs.Prelude.{◌⊎◌, ◌+◌, ◌<◌, ◌^◌, ℕ, [], sum, slice_range, OnOk, IfSome};
     ghost use Rattle.obu_header.specs.View.{head_of};
     ghost use Rattle.mp4_file.specs.Slices.{joined};
-    ghost use Rattle.iamf_mux.specs.Gathering.{slices_of, with_unit, with_bytes, with_data, with_descriptor, with_obu, no_slices};
+    ghost use Rattle.iamf_mux.specs.Ranges.{AreRanges, parts};
+    ghost use Rattle.iamf_mux.specs.Gathering.{slices_of, with_unit, with_bytes, with_data, with_descriptor, with_obu, no_slices, AreSliced};
 
     /// Of a sequence with these bytes, before its first OBU.
     pub fn new(alloc: Global, bytes: &'a [u8]) -> Gathered<'a>
         ensures none { slices_of result ≡ no_slices }
+        ensures sliced { AreSliced result 0 }
         ensures same { result.bytes.now ≡ bytes.now }
     {
         Gathered {
@@ -44,6 +46,7 @@ impl<'a> Gathered<'a> {
     // The unit is begun, if it is not yet.
     fn begin(&mut self, unit: usize) -> Result<(), AllocError>
         ensures begun { OnOk result (slices_of self.new ≡ with_unit unit (slices_of self.old)) }
+        ensures sliced { (place : ℕ) → AreSliced self.old place → AreSliced self.new place }
         ensures same { self.new.bytes.now ≡ self.old.bytes.now }
     {
         if unit == self.unit_lengths.len() {
@@ -56,6 +59,8 @@ impl<'a> Gathered<'a> {
     pub fn close(&mut self) -> Result<(), AllocError>
         ensures kept { OnOk result (slices_of self.new ≡ slices_of self.old) }
         ensures closed { OnOk result (self.new.start ≡ self.new.end) }
+        ensures end { self.new.end ≡ self.old.end }
+        ensures sliced { AreRanges self.old.bytes.now 0 (parts self.old.units.items) self.old.start → OnOk result (AreRanges self.new.bytes.now 0 (parts self.new.units.items) (self.new.end + 1)) }
         ensures same { self.new.bytes.now ≡ self.old.bytes.now }
     {
         if self.start < self.end {
@@ -69,7 +74,9 @@ impl<'a> Gathered<'a> {
     fn put_bytes(&mut self, at: usize, end: usize) -> Result<(), AllocError>
         requires onward { at ≤ end }
         requires within { end ≤ length self.old.bytes.now }
+        requires sliced { AreSliced self.old at }
         ensures put { OnOk result (slices_of self.new ≡ with_bytes (slice_range self.old.bytes.now at end) (slices_of self.old)) }
+        ensures sliced { OnOk result (AreSliced self.new end) }
         ensures same { self.new.bytes.now ≡ self.old.bytes.now }
     {
         if at == self.end {
@@ -88,7 +95,9 @@ impl<'a> Gathered<'a> {
         requires onward { at ≤ end }
         requires within { end ≤ length self.old.bytes.now }
         requires room { sum (slices_of self.old).unit_lengths + length (slice_range self.old.bytes.now at end) ≤ 2 ^ 30 }
+        requires sliced { AreSliced self.old at }
         ensures put { OnOk result (slices_of self.new ≡ with_data unit (slice_range self.old.bytes.now at end) (slices_of self.old)) }
+        ensures sliced { OnOk result (AreSliced self.new end) }
         ensures same { self.new.bytes.now ≡ self.old.bytes.now }
     {
         self.unit_lengths[unit] += (end - at) as u32;
@@ -98,6 +107,7 @@ impl<'a> Gathered<'a> {
 
     fn put_descriptor(&mut self, bytes: &'a [u8]) -> Result<(), AllocError>
         ensures put { OnOk result (slices_of self.new ≡ with_descriptor bytes.now (slices_of self.old)) }
+        ensures sliced { (place : ℕ) → AreSliced self.old place → AreSliced self.new place }
         ensures same { self.new.bytes.now ≡ self.old.bytes.now }
     {
         self.descriptors.push(bytes)?;
@@ -116,7 +126,9 @@ impl<'a> Gathered<'a> {
         requires onward { at ≤ end }
         requires within { end ≤ length self.old.bytes.now }
         requires room { sum (slices_of self.old).unit_lengths + length (slice_range self.old.bytes.now at end) ≤ 2 ^ 30 }
+        requires sliced { AreSliced self.old at }
         ensures added { OnOk result (slices_of self.new ≡ with_obu (head_of head.now) unit (slice_range self.old.bytes.now at end) (slices_of self.old)) }
+        ensures sliced { OnOk result (AreSliced self.new end) }
         ensures same { self.new.bytes.now ≡ self.old.bytes.now }
     {
         match unit {

@@ -11,7 +11,8 @@ ghost use Rattle.spec_files.specs.MovieFile.{file};
 ghost use Rattle.mp4_file.specs.Slices.{joined};
 ghost use Rattle.mp4_file.specs.Views.{movie_of};
 ghost use Rattle.iamf_mux.specs.Gathering.{slices_of, IsGatheredUpTo, IsGatheredOf};
-ghost use Rattle.iamf_mux.specs.FileOf.{file_of};
+ghost use Rattle.iamf_mux.specs.Ranges.{AreRanges, parts};
+ghost use Rattle.iamf_mux.specs.FileOf.{file_of, HasItsUnits, LiesIn};
 ghost use Rattle.iamf_mux.specs.Rates.{rate_in};
 
 use crate::gathered::Gathered;
@@ -36,6 +37,7 @@ fn gather<'a>(alloc: Global, sequence: &Sequence<'a>) -> Result<Gathered<'a>, Al
     requires { length sequence.now.bytes ≤ 2 ^ 30 }
     ensures gathered { IfOk result (λ g. IsGatheredOf sequence.now (slices_of g)) }
     ensures closed { IfOk result (λ g. joined g.units.items ≡ (slices_of g).units) }
+    ensures sliced { IfOk result (λ g. AreRanges sequence.now.bytes 0 (parts g.units.items) (length sequence.now.bytes + 1)) }
 {
     let mut gathered = Gathered::new(alloc, sequence.bytes());
     for i in 0..sequence.count() {
@@ -101,7 +103,7 @@ pub fn mux(alloc: Global, sequence: &Sequence<'_>) -> Result<Vec<u8>, AllocError
     write_movie(alloc, &movie(sequence, &gathered))
 }
 
-/// A file in two parts, of which the second lies in the bytes of a sequence.
+/// A file in two parts, of which the second lies in the bytes of a sequence, in the order of its slices.
 #[derive(Drop)]
 pub struct FileParts<'a> {
     /// All that stands before the data of the samples.
@@ -117,7 +119,9 @@ pub struct FileParts<'a> {
 /// Want of memory alone.
 pub fn file_parts<'a>(alloc: Global, sequence: &Sequence<'a>) -> Result<FileParts<'a>, AllocError>
     requires { length sequence.now.bytes ≤ 2 ^ 30 }
-    ensures { IfOk result (λ p. IsFileOf sequence.now.bytes (file_of p)) }
+    ensures file { IfOk result (λ p. IsFileOf sequence.now.bytes (file_of p)) }
+    ensures units { IfOk result (λ p. HasItsUnits sequence.now.bytes p) }
+    ensures slices { IfOk result (λ p. LiesIn sequence.now.bytes p) }
 {
     let gathered = gather(alloc, sequence)?;
     let front = write_front(alloc, &movie(sequence, &gathered))?;

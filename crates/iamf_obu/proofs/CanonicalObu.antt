@@ -17,7 +17,7 @@ use Rattle.spec_values.proofs.BytesOfBits.{packed_is}
 use Rattle.spec_values.proofs.Tables.{table, says_by}
 use Rattle.spec_values.proofs.Payloads.{payload_of, canonical_payload_is}
 use Rattle.spec_values.proofs.Obus.{never_longer}
-use Rattle.obu_descriptors.proofs.ReadingBack.{one_entry}
+use Rattle.obu_codec_config.proofs.ReadingBack.{one_entry}
 use Rattle.iamf_obu.specs.declared.content.Content.{Content}
 use Rattle.iamf_obu.specs.declared.content.Content.TheVariants.{SequenceHeader, CodecConfig, AudioElement, MixPresentation, ParameterBlock, TemporalDelimiter, AudioFrame, Reserved}
 use Rattle.iamf_obu.specs.ContentReading.{IsRead}

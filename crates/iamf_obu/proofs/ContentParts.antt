@@ -1,5 +1,5 @@
 -- The two parts of a payload: the fields, and the bytes after them.
-use Rattle.std.proofs.Common.{◌≡◌, ℕ, List, ◌++◌, Result, Ok, Err, refl, sym, ap, subst, ◌∙◌, append_assoc}
+use Rattle.std.proofs.Common.{◌≡◌, ℕ, List, ◌++◌, Box, Global, Result, Ok, Err, refl, sym, ap, subst, ◌∙◌, append_assoc}
 use Rattle.std.specs.Prelude.{IfOk}
 use Rattle.spec_bits.specs.Bits.{Bits, all_bits}
 use Rattle.spec_bits.proofs.BitsLaws.{all_bits-append}
@@ -11,14 +11,14 @@ use Rattle.spec_descriptors.specs.DescriptorFields.{sequence_header_fields, code
 use Rattle.spec_descriptors.specs.ElementFields.{audio_element_fields}
 use Rattle.spec_descriptors.specs.MixFields.{mix_presentation_fields}
 use Rattle.spec_blocks.specs.BlockFieldLists.{block_fields, frame_fields}
-use Rattle.obu_descriptors.specs.declared.sequence_header.SequenceHeader.{SequenceHeader as Header}
-use Rattle.obu_descriptors.specs.declared.codec_config.CodecConfig.{CodecConfig as Codec}
+use Rattle.obu_codec_config.specs.declared.sequence_header.SequenceHeader.{SequenceHeader as Header}
+use Rattle.obu_codec_config.specs.declared.codec_config.CodecConfig.{CodecConfig as Codec}
 use Rattle.obu_descriptors.specs.declared.audio_element.AudioElement.{AudioElement as Element}
 use Rattle.obu_mix.specs.declared.mix_presentation.MixPresentation.{MixPresentation as Mix}
 use Rattle.obu_data.specs.declared.parameter_block.ParameterBlock.{ParameterBlock as Block}
 use Rattle.obu_data.specs.declared.frame.FrameView.{FrameView as Frame}
-use Rattle.obu_descriptors.specs.HeaderView.{view_header}
-use Rattle.obu_descriptors.specs.CodecView.{StandsForCodec}
+use Rattle.obu_codec_config.specs.HeaderView.{view_header}
+use Rattle.obu_codec_config.specs.CodecView.{StandsForCodec}
 use Rattle.obu_descriptors.specs.ElementView.{view_element}
 use Rattle.obu_mix.specs.TagView.{tags_bytes}
 use Rattle.obu_mix.specs.MixView.{view_mix, tags_in}
@@ -56,16 +56,16 @@ codec_front items content q (Ok v) is bits =
     subst (λ (x : Content). SpellsFront x (items v)) (sym is) (λ kind c tail holds. fields_and_tail (items v) q.tail.now _ kind c (said.Codec holds.0) tail (bits holds.0 holds.1) holds.3 refl holds.4)
 codec_front items content q (Err e) is bits = tt
 
-pub element_front : {V E : Type 0} (items : V → List ℕ) (content : Content) (e : Element) (r : Result V E) → content ≡ AudioElement e → IfOk r (λ v. all_bits (items v) ≡ canon (audio_element_fields (view_element e)))
+pub element_front : {V E : Type 0} (items : V → List ℕ) (content : Content) (e : Box Element Global) (r : Result V E) → content ≡ AudioElement e → IfOk r (λ v. all_bits (items v) ≡ canon (audio_element_fields (view_element e.value)))
     → IfOk r (λ v. SpellsFront content (items v))
 element_front items content e (Ok v) is bits =
-    subst (λ (x : Content). SpellsFront x (items v)) (sym is) (λ kind c tail holds. fields_and_tail (items v) e.tail.now _ kind c (said.Element (view_element e)) tail bits holds.0 refl holds.1)
+    subst (λ (x : Content). SpellsFront x (items v)) (sym is) (λ kind c tail holds. fields_and_tail (items v) e.value.tail.now _ kind c (said.Element (view_element e.value)) tail bits holds.0 refl holds.1)
 element_front items content e (Err f) is bits = tt
 
-pub mix_front : {V E : Type 0} (items : V → List ℕ) (content : Content) (m : Mix) (r : Result V E) → content ≡ MixPresentation m
-    → IfOk r (λ v. all_bits (items v) ≡ canon (mix_presentation_fields (view_mix m)) ++ all_bits (tags_bytes (tags_in m))) → IfOk r (λ v. SpellsFront content (items v))
+pub mix_front : {V E : Type 0} (items : V → List ℕ) (content : Content) (m : Box Mix Global) (r : Result V E) → content ≡ MixPresentation m
+    → IfOk r (λ v. all_bits (items v) ≡ canon (mix_presentation_fields (view_mix m.value)) ++ all_bits (tags_bytes (tags_in m.value))) → IfOk r (λ v. SpellsFront content (items v))
 mix_front items content m (Ok v) is bits =
-    subst (λ (x : Content). SpellsFront x (items v)) (sym is) (λ kind c tail holds. fields_and_more (items v) (tags_bytes (tags_in m)) m.tail.now _ kind c (said.Mix (view_mix m)) tail bits holds.0 refl holds.1)
+    subst (λ (x : Content). SpellsFront x (items v)) (sym is) (λ kind c tail holds. fields_and_more (items v) (tags_bytes (tags_in m.value)) m.value.tail.now _ kind c (said.Mix (view_mix m.value)) tail bits holds.0 refl holds.1)
 mix_front items content m (Err f) is bits = tt
 
 pub block_front : {V E : Type 0} (items : V → List ℕ) (content : Content) (b : Block) (r : Result V E) → content ≡ ParameterBlock b → IfOk r (λ v. all_bits (items v) ≡ canon (block_fields (view_block b)))

@@ -7,7 +7,7 @@ use Rattle.spec_obu.specs.declared.obu_type.ObuType.{ObuType}
 use Rattle.spec_obu.specs.Kinds.{obu_type_of}
 use Rattle.spec_values.specs.Content as said
 use Rattle.spec_values.specs.Content.{Context, Says, PayloadOf, fields_of}
-use Rattle.obu_descriptors.specs.HeaderView.{view_header}
+use Rattle.obu_codec_config.specs.HeaderView.{view_header}
 use Rattle.obu_descriptors.specs.ElementView.{view_element}
 use Rattle.obu_mix.specs.MixView.{view_mix, tail_of}
 use Rattle.obu_data.specs.BlockView.{view_block, bytes_after}
@@ -29,10 +29,10 @@ says_here context kind (CodecConfig r) c tail v valid holds bits are tail_is =
     subst P (sym holds.3) (λ b. record { spelling = canon (fields_of kind (said.Codec holds.0)); stands = holds.2; parts = b }) bits
 says_here context kind (AudioElement e) c tail v valid holds bits are tail_is =
     let P : said.Content → Type 0 = λ x. AreFields kind v x tail → Says context kind (type_in (AudioElement e)) x tail v in
-    subst P (sym holds.0) (λ b. record { spelling = canon (fields_of kind (said.Element (view_element e))); stands = valid; parts = b }) bits
+    subst P (sym holds.0) (λ b. record { spelling = canon (fields_of kind (said.Element (view_element e.value))); stands = valid; parts = b }) bits
 says_here context kind (MixPresentation m) c tail v valid holds bits are tail_is =
     let P : said.Content → Type 0 = λ x. AreFields kind v x tail → Says context kind (type_in (MixPresentation m)) x tail v in
-    subst P (sym holds.0) (λ b. record { spelling = canon (fields_of kind (said.Mix (view_mix m))); stands = valid.fields; parts = b }) bits
+    subst P (sym holds.0) (λ b. record { spelling = canon (fields_of kind (said.Mix (view_mix m.value))); stands = valid.fields; parts = b }) bits
 says_here context kind (ParameterBlock p) c tail v valid holds bits are tail_is =
     let P : said.Content → Type 0 = λ x. AreFields kind v x tail → Says context kind (type_in (ParameterBlock p)) x tail v in
     subst P (sym holds.0) (λ b. record { spelling = canon (fields_of kind (said.Block (view_block p))); stands = valid.0; parts = b }) bits
@@ -58,8 +58,8 @@ payload_is_of context kind content c tail v valid typed holds bits are tail_is =
 pub some_content : (context : Context) (kind : ℕ) (content : Content) → IsValidContent context kind content → (c : said.Content) × (tail : List ℕ) × Holds content c tail
 some_content context kind (SequenceHeader h) valid = (said.Header (view_header h), h.tail.now, (refl, refl))
 some_content context kind (CodecConfig r) valid = (said.Codec valid.0, r.tail.now, (valid.0, valid.1, valid.2, refl, refl))
-some_content context kind (AudioElement e) valid = (said.Element (view_element e), e.tail.now, (refl, refl))
-some_content context kind (MixPresentation m) valid = (said.Mix (view_mix m), tail_of m, (refl, refl))
+some_content context kind (AudioElement e) valid = (said.Element (view_element e.value), e.value.tail.now, (refl, refl))
+some_content context kind (MixPresentation m) valid = (said.Mix (view_mix m.value), tail_of m.value, (refl, refl))
 some_content context kind (ParameterBlock b) valid = (said.Block (view_block b), bytes_after b, (refl, refl))
 some_content context kind (TemporalDelimiter bytes) valid = (said.Nothing, bytes.now, (refl, refl))
 some_content context kind (AudioFrame f) valid = (said.Frame f.substream, f.bytes.now, (refl, refl))

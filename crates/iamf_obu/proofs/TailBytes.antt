@@ -34,7 +34,7 @@ pub tail_bytes : (context : Context) (kind : ℕ) (content : Content) (c : said.
 tail_bytes context kind (SequenceHeader h) c tail valid holds are = subst AreBytes (sym holds.1) are
 tail_bytes context kind (CodecConfig r) c tail valid holds are = subst AreBytes (sym holds.4) are
 tail_bytes context kind (AudioElement e) c tail valid holds are = subst AreBytes (sym holds.1) are
-tail_bytes context kind (MixPresentation m) c tail valid holds are = subst AreBytes (sym holds.1) (AreBytes-append (tags_bytes (tags_in m)) m.tail.now (list_is (tags_in m) m.tail.now valid.tags) are)
+tail_bytes context kind (MixPresentation m) c tail valid holds are = subst AreBytes (sym holds.1) (AreBytes-append (tags_bytes (tags_in m.value)) m.value.tail.now (list_is (tags_in m.value) m.value.tail.now valid.tags) are)
 tail_bytes context kind (ParameterBlock b) c tail valid holds are = subst AreBytes (sym holds.1) are
 tail_bytes context kind (TemporalDelimiter bytes) c tail valid holds are = subst AreBytes (sym holds.1) are
 tail_bytes context kind (AudioFrame f) c tail valid holds are = subst AreBytes (sym holds.1) are

@@ -15,8 +15,8 @@ use Rattle.spec_blocks.specs.AudioFrame.{audio_frame}
 use Rattle.spec_blocks.specs.BlockFieldLists.{block_fields, frame_fields}
 use Rattle.spec_values.specs.Content as said
 use Rattle.spec_values.specs.Content.{Context}
-use Rattle.obu_descriptors.specs.HeaderView.{view_header}
-use Rattle.obu_descriptors.specs.CodecView.{StandsForCodec}
+use Rattle.obu_codec_config.specs.HeaderView.{view_header}
+use Rattle.obu_codec_config.specs.CodecView.{StandsForCodec}
 use Rattle.obu_descriptors.specs.ElementView.{view_element}
 use Rattle.obu_mix.specs.MixView.{view_mix, tail_of, IsValidMix}
 use Rattle.obu_data.specs.BlockView.{view_block, bytes_after}
@@ -40,8 +40,8 @@ type_in (Reserved bytes) = types.Reserved
 abbrev pub Holds : Content → said.Content → List ℕ → Type 0
 Holds (SequenceHeader h) c tail = (c ≡ said.Header (view_header h)) × (tail ≡ h.tail.now)
 Holds (CodecConfig r) c tail = (w : CodecConfigFields) × StandsForCodec r w × IsValid codec_config codec_config_fields w × (c ≡ said.Codec w) × (tail ≡ r.tail.now)
-Holds (AudioElement e) c tail = (c ≡ said.Element (view_element e)) × (tail ≡ e.tail.now)
-Holds (MixPresentation m) c tail = (c ≡ said.Mix (view_mix m)) × (tail ≡ tail_of m)
+Holds (AudioElement e) c tail = (c ≡ said.Element (view_element e.value)) × (tail ≡ e.value.tail.now)
+Holds (MixPresentation m) c tail = (c ≡ said.Mix (view_mix m.value)) × (tail ≡ tail_of m.value)
 Holds (ParameterBlock b) c tail = (c ≡ said.Block (view_block b)) × (tail ≡ bytes_after b)
 Holds (TemporalDelimiter bytes) c tail = (c ≡ said.Nothing) × (tail ≡ bytes.now)
 Holds (AudioFrame f) c tail = (c ≡ said.Frame f.substream) × (tail ≡ f.bytes.now)
@@ -51,8 +51,8 @@ Holds (Reserved bytes) c tail = (c ≡ said.Nothing) × (tail ≡ bytes.now)
 abbrev pub IsValidContent : Context → ℕ → Content → Type 0
 IsValidContent context kind (SequenceHeader h) = IsValid sequence_header sequence_header_fields (view_header h)
 IsValidContent context kind (CodecConfig r) = (w : CodecConfigFields) × StandsForCodec r w × IsValid codec_config codec_config_fields w
-IsValidContent context kind (AudioElement e) = IsValid (audio_element context.frame_length) audio_element_fields (view_element e)
-IsValidContent context kind (MixPresentation m) = IsValidMix m
+IsValidContent context kind (AudioElement e) = IsValid (audio_element context.frame_length) audio_element_fields (view_element e.value)
+IsValidContent context kind (MixPresentation m) = IsValidMix m.value
 IsValidContent context kind (ParameterBlock b) = IsValid (parameter_block context.definitions) block_fields (view_block b) × FollowsShape (shape_of context.definitions b.id) b
 IsValidContent context kind (TemporalDelimiter bytes) = Unit {0}
 IsValidContent context kind (AudioFrame f) = IsValid (audio_frame kind) (frame_fields kind) f.substream

@@ -31,8 +31,8 @@ PutsObu head content old new = (c : said.Content) (tail : List ℕ) → Holds co
 abbrev pub rest_bytes : Content → List ℕ
 rest_bytes (SequenceHeader h) = h.tail.now
 rest_bytes (CodecConfig r) = r.tail.now
-rest_bytes (AudioElement e) = e.tail.now
-rest_bytes (MixPresentation m) = m.tail.now
+rest_bytes (AudioElement e) = e.value.tail.now
+rest_bytes (MixPresentation m) = m.value.tail.now
 rest_bytes (ParameterBlock b) = bytes_after b
 rest_bytes (TemporalDelimiter bytes) = bytes.now
 rest_bytes (AudioFrame f) = f.bytes.now

@@ -6,7 +6,8 @@ use obu_descriptors::{AudioElement, CodecConfig, SequenceHeader};
 use obu_header::ObuType;
 use obu_mix::MixPresentation;
 
-/// What an OBU says, by its type (IAMF 1.0.0, "OBU Header Syntax and Semantics", `obu_type`).
+/// What an OBU says, by its type (IAMF 1.0.0, "OBU Header Syntax and Semantics", `obu_type`). The large descriptors stand in
+/// boxes, so that a frame is moved as a small value.
 #[derive(Drop)]
 pub enum Content<'a> {
     /// A sequence header.
@@ -14,9 +15,9 @@ pub enum Content<'a> {
     /// A codec config.
     CodecConfig(CodecConfig<'a>),
     /// An audio element.
-    AudioElement(AudioElement<'a>),
+    AudioElement(Box<AudioElement<'a>>),
     /// A mix presentation.
-    MixPresentation(MixPresentation<'a>),
+    MixPresentation(Box<MixPresentation<'a>>),
     /// A parameter block.
     ParameterBlock(ParameterBlock<'a>),
     /// A temporal delimiter, with the bytes of its payload, which say nothing.

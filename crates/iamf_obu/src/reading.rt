@@ -47,7 +47,7 @@ fn read_audio_element<'a>(
     ensures obu_type { IfOk result (λ content. type_in content ≡ types.AudioElement) }
 {
     match AudioElement::read(alloc, payload, frame_length) {
-        Ok(element) => Ok(Content::AudioElement(element)),
+        Ok(element) => Ok(Content::AudioElement(Box::new(alloc, element)?)),
         Err(error) => Err(error.map_fault(Fault::Descriptor)),
     }
 }
@@ -58,7 +58,7 @@ fn read_mix_presentation<'a>(alloc: Global, payload: &'a [u8]) -> Result<Content
     ensures obu_type { IfOk result (λ content. type_in content ≡ types.MixPresentation) }
 {
     match MixPresentation::read(alloc, payload) {
-        Ok(mix) => Ok(Content::MixPresentation(mix)),
+        Ok(mix) => Ok(Content::MixPresentation(Box::new(alloc, mix)?)),
         Err(error) => Err(error.map_fault(Fault::Mix)),
     }
 }

@@ -5,7 +5,7 @@ use Rattle.spec_descriptors.specs.MixGain.{MixGainFields}
 use Rattle.spec_rules.specs.Units.{unit_count}
 use Rattle.spec_sequence.specs.Parts.{temporal_units}
 use Rattle.spec_sequence.specs.Reading.{values_of, roles}
-use Rattle.obu_mix.specs.MixGainView.{view_mix_gain}
+use Rattle.obu_mix_elements.specs.MixGainView.{view_mix_gain}
 use Rattle.spec_play.specs.Mixes.{MixedElement, Rendition, unit_length}
 use Rattle.spec_play.specs.GainsOverTime.{gain_at}
 use Rattle.spec_play.specs.FixedMix.{gained, fixed_channel}

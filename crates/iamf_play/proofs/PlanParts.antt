@@ -6,7 +6,7 @@ use Rattle.spec_syntax.specs.Payload.{IsValid}
 use Rattle.spec_descriptors.specs.AudioElement.{AudioElementFields, audio_element}
 use Rattle.spec_descriptors.specs.ElementFields.{audio_element_fields}
 use Rattle.spec_descriptors.specs.MixGain.{MixGainFields}
-use Rattle.obu_mix.specs.MixGainView.{view_mix_gain}
+use Rattle.obu_mix_elements.specs.MixGainView.{view_mix_gain}
 use Rattle.spec_play.specs.declared.target.Target.{Target}
 use Rattle.spec_play.specs.Mixes.{MixedElement, Rendition}
 use Rattle.spec_play.specs.Selection.{is_gain_above}

@@ -1,6 +1,6 @@
 -- The gains of a mix gain, as a player comes from one temporal unit to the next.
 use Rattle.std.specs.Prelude.{◌≡◌, ℕ, ◌*◌, ◌≤◌, length}
-use Rattle.obu_mix.specs.MixGainView.{view_mix_gain}
+use Rattle.obu_mix_elements.specs.MixGainView.{view_mix_gain}
 use Rattle.spec_play.specs.Mixes.{Rendition, unit_length}
 use Rattle.iamf_mixing.specs.Tracks.{IsOn}
 use Rattle.iamf_play.specs.declared.gains.UnitGains.{UnitGains}

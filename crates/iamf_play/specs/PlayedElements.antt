@@ -1,6 +1,6 @@
 -- The elements of a mix as a player holds them.
 use Rattle.std.specs.Prelude.{◌≡◌, ℕ, ◌+◌, ◌<◌, ◌^◌, false, List, length, Some, slice_get}
-use Rattle.obu_mix.specs.MixGainView.{view_mix_gain}
+use Rattle.obu_mix_elements.specs.MixGainView.{view_mix_gain}
 use Rattle.spec_play.specs.Mixes.{MixedElement, Rendition, unit_length}
 use Rattle.spec_play.specs.Selection.{is_gain_above}
 use Rattle.iamf_sequence.specs.SequenceValue.{SequenceValue}

@@ -3,7 +3,7 @@ use Rattle.std.specs.Prelude.{◌≡◌, ℕ, ◌*◌, ◌/◌, ◌<◌, ◌^◌
 use Rattle.spec_sequence.specs.Reading.{values_of}
 use Rattle.spec_waves.specs.Wave.{IsShape}
 use Rattle.wav_io.specs.Views.{shape_of}
-use Rattle.obu_mix.specs.MixGainView.{view_mix_gain}
+use Rattle.obu_mix_elements.specs.MixGainView.{view_mix_gain}
 use Rattle.spec_play.specs.Mixes.{Rendition, rendition_of, codec_of, unit_length}
 use Rattle.spec_play.specs.Waves.{wave_shape}
 use Rattle.spec_play.specs.Playing.{unit_bytes}

@@ -5,7 +5,7 @@ ghost use Rattle.spec_rules.specs.Units.{unit_count};
 ghost use Rattle.spec_sequence.specs.Parts.{BlockValue, temporal_units};
 ghost use Rattle.spec_sequence.specs.Reading.{values_of, roles};
 ghost use Rattle.obu_data.specs.BlockView.{view_block};
-ghost use Rattle.obu_mix.specs.MixGainView.{view_mix_gain};
+ghost use Rattle.obu_mix_elements.specs.MixGainView.{view_mix_gain};
 ghost use Rattle.spec_play.specs.Mixes.{Rendition, unit_length, unit_of};
 ghost use Rattle.iamf_mixing.specs.Tracks.{IsOn, IsFilled, HasGains};
 ghost use Rattle.iamf_sequence.specs.UnitView.{IsUnit};

@@ -5,7 +5,7 @@ ghost use Rattle.spec_rules.specs.Units.{unit_count};
 ghost use Rattle.spec_sequence.specs.Reading.{roles};
 ghost use Rattle.spec_descriptors.specs.CodecConfig.{CodecConfigFields};
 ghost use Rattle.spec_sequence.specs.ValueRole.{role_of_codec};
-ghost use Rattle.obu_descriptors.specs.CodecView.{StandsForCodec};
+ghost use Rattle.obu_codec_config.specs.CodecView.{StandsForCodec};
 ghost use Rattle.spec_play.specs.Mixes.{MixedElement, Rendition, unit_length};
 ghost use Rattle.spec_play.specs.Waves.{mask_for, wave_shape};
 ghost use Rattle.spec_play.specs.Laws.{IsHearable};

@@ -5,7 +5,7 @@ ghost use Rattle.std.specs.List.{All};
 ghost use Rattle.std.specs.BTreeMap.{get, Updates};
 ghost use Rattle.spec_blocks.specs.Shape.{MixGain, shape_of, with_definition};
 ghost use Rattle.spec_rules.specs.Units.{duration_by};
-ghost use Rattle.obu_descriptors.specs.TimingView.{view_fixed};
+ghost use Rattle.obu_timing.specs.TimingView.{view_fixed};
 ghost use Rattle.obu_data.specs.ShapeView.{MayDefine};
 ghost use Rattle.obu_data.specs.DefinitionView.{view_definition};
 ghost use Rattle.iamf_rules.specs.BlockSteps.{no_block, slot_at, unit_start, unit_end, is_late_of, block_end_of, with_block};
@@ -13,7 +13,7 @@ ghost use Rattle.iamf_rules.specs.BlockSteps.{no_block, slot_at, unit_start, uni
 use crate::clashing;
 use crate::clashing::copy_of;
 use obu_data::{Definition, Definitions, Shape};
-use obu_descriptors::Cadence;
+use obu_timing::Cadence;
 use std::alloc::{AllocError, Global};
 use std::collections::BTreeMap;
 

@@ -5,9 +5,9 @@ use Rattle.spec_sequence.specs.Reading.{values_of}
 use Rattle.spec_play.specs.Mixes.{MixedElement, Rendition, rendition, mixed_element}
 use Rattle.obu_descriptors.specs.ElementView.{view_element}
 use Rattle.obu_mix.specs.SubMixView.{view_sub_mix}
-use Rattle.obu_mix.specs.MixGainView.{view_mix_gain}
-use Rattle.obu_mix.specs.MixElementView.{view_mix_element}
-use Rattle.obu_mix.specs.declared.mix_element.MixElement.{MixElement}
+use Rattle.obu_mix_elements.specs.MixGainView.{view_mix_gain}
+use Rattle.obu_mix_elements.specs.MixElementView.{view_mix_element}
+use Rattle.obu_mix_elements.specs.declared.mix_element.MixElement.{MixElement}
 use Rattle.iamf_select.specs.declared.candidate.Candidate.{Candidate}
 use Rattle.iamf_select.specs.declared.candidate.Heard.{Heard}
 

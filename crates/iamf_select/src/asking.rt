@@ -4,9 +4,9 @@ ghost use Rattle.std.specs.Prelude.{◌≡◌, ◌+◌, ◌<◌, ◌≤◌, nat_
 ghost use Rattle.std.specs.List.{list_any};
 ghost use Rattle.spec_descriptors.specs.CodecConfig.{CodecConfigFields};
 ghost use Rattle.spec_sequence.specs.ValueRole.{role_of_codec};
-ghost use Rattle.obu_descriptors.specs.CodecView.{StandsForCodec};
+ghost use Rattle.obu_codec_config.specs.CodecView.{StandsForCodec};
 ghost use Rattle.obu_descriptors.specs.ElementView.{view_element};
-ghost use Rattle.obu_mix.specs.MixGainView.{view_mix_gain};
+ghost use Rattle.obu_mix_elements.specs.MixGainView.{view_mix_gain};
 ghost use Rattle.spec_play.specs.Mixes.{codec_of};
 ghost use Rattle.spec_play.specs.DemixingOverTime.{demixing_of};
 ghost use Rattle.spec_play.specs.Selection.{has_reserved, has_other_rate, some_part, is_bezier, is_gain_above};

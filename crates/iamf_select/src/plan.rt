@@ -5,7 +5,7 @@ ghost use Rattle.spec_sequence.specs.Reading.{values_of};
 ghost use Rattle.spec_play.specs.Laws.{IsHearable, IsPlayable};
 ghost use Rattle.spec_play.specs.Mixes.{MixedElement, Rendition};
 ghost use Rattle.obu_descriptors.specs.ElementView.{view_element};
-ghost use Rattle.obu_mix.specs.MixGainView.{view_mix_gain};
+ghost use Rattle.obu_mix_elements.specs.MixGainView.{view_mix_gain};
 ghost use Rattle.iamf_sequence.specs.ContentsView.{IsElement};
 ghost use Rattle.iamf_select.specs.PlanView.{IsSelected};
 

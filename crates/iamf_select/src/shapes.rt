@@ -6,7 +6,7 @@ ghost use Rattle.std.specs.Option.{option_to_list};
 ghost use Rattle.spec_descriptors.specs.CodecConfig.{CodecConfigFields};
 ghost use Rattle.spec_sequence.specs.ValueRole.{role_of_codec};
 ghost use Rattle.spec_waves.specs.Wave.{riff_size};
-ghost use Rattle.obu_descriptors.specs.CodecView.{StandsForCodec};
+ghost use Rattle.obu_codec_config.specs.CodecView.{StandsForCodec};
 ghost use Rattle.spec_play.specs.Waves.{output_counts, first_count, channel_count, wave_shape};
 ghost use Rattle.spec_play.specs.Selection.{coded_channels, has_other_shape, are_different};
 ghost use Rattle.iamf_select.specs.CandidateView.{heard, heard_by};

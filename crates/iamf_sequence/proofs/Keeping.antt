@@ -1,5 +1,5 @@
 -- What is kept of what OBUs say, with one more OBU.
-use Rattle.std.proofs.Common.{Vec, Global, ◌≡◌, ℕ, ◌+◌, ◌≤◌, Bool, true, false, List, [], ◌∷◌, ◌++◌, map, refl, sym, ap, subst, ◌∙◌, inl, inr, append-nil}
+use Rattle.std.proofs.Common.{Box, Vec, Global, ◌≡◌, ℕ, ◌+◌, ◌≤◌, Bool, true, false, List, [], ◌∷◌, ◌++◌, map, refl, sym, ap, subst, ◌∙◌, inl, inr, append-nil}
 use Rattle.std.specs.Prelude.{Option, Some, None, unwrap_or, Result, Ok, Err, OnOk, if◌then◌else◌}
 use Rattle.std.specs.Borrow.{Bor}
 use Rattle.std.specs.List.{flat_map, All}
@@ -33,10 +33,10 @@ use Rattle.spec_sequence.specs.Parts.{roles_of, of_plain, header_in, codec_in, e
 use Rattle.spec_sequence.proofs.RedundantCopies.{plain_of}
 use Rattle.spec_sequence.proofs.Roles.{roles_of_values, nothing_of}
 use Rattle.spec_sequence.proofs.RolesOfParts.{profiles_are, codecs_are}
-use Rattle.obu_descriptors.specs.HeaderView.{view_header}
+use Rattle.obu_codec_config.specs.HeaderView.{view_header}
 use Rattle.obu_descriptors.specs.ElementView.{view_element}
-use Rattle.obu_descriptors.specs.declared.sequence_header.SequenceHeader.{SequenceHeader}
-use Rattle.obu_descriptors.specs.declared.codec_config.CodecConfig.{CodecConfig}
+use Rattle.obu_codec_config.specs.declared.sequence_header.SequenceHeader.{SequenceHeader}
+use Rattle.obu_codec_config.specs.declared.codec_config.CodecConfig.{CodecConfig}
 use Rattle.obu_descriptors.specs.declared.audio_element.AudioElement.{AudioElement}
 use Rattle.obu_mix.specs.MixView.{view_mix, tail_of, IsValidMix}
 use Rattle.obu_mix.specs.declared.mix_presentation.MixPresentation.{MixPresentation}
@@ -208,37 +208,37 @@ keeps_codec k r unit past e keeps admitted said adds =
     })
     (units_as_before k s o (ap is_data is) keeps)
 
-pub keeps_element : (k : Contents) (es : Vec AudioElement Global) (x : AudioElement) (unit : ℕ) → es.items ≡ k.elements.items ++ x ∷ [] → IsKeptBy k (record k { elements = es }) (contents.AudioElement x) unit
+pub keeps_element : (k : Contents) (es : Vec AudioElement Global) (x : Box AudioElement Global) (unit : ℕ) → es.items ≡ k.elements.items ++ x.value ∷ [] → IsKeptBy k (record k { elements = es }) (contents.AudioElement x) unit
 keeps_element k es x unit more past e keeps admitted said adds =
     let s = values_of past in
     let o = e.value in
     let p : o.head.redundant ≡ false = plain (contents.AudioElement x) past e types.AudioElement said refl (λ y. cc) in
     let old = kept_as_before k s keeps in
-    keeps_with (record k { elements = es }) s o [] [] (element_and_tail x ∷ []) [] (plain_ends o (specs.Element (view_element x)) x.tail.now p said.holds.0 said.holds.1)
+    keeps_with (record k { elements = es }) s o [] [] (element_and_tail x.value ∷ []) [] (plain_ends o (specs.Element (view_element x.value)) x.value.tail.now p said.holds.0 said.holds.1)
     (record {
       header = old.header;
       codec = old.codec;
-      elements = ap (map element_and_tail) more ∙ map-append element_and_tail k.elements.items (x ∷ []) ∙ ap (λ (xs : List (AudioElementFields × List ℕ)). xs ++ element_and_tail x ∷ []) keeps.elements;
-      valid = rw more (All-push IsElement k.elements.items x keeps.valid ((reading.context_after past).frame_length, said.valid));
+      elements = ap (map element_and_tail) more ∙ map-append element_and_tail k.elements.items (x.value ∷ []) ∙ ap (λ (xs : List (AudioElementFields × List ℕ)). xs ++ element_and_tail x.value ∷ []) keeps.elements;
+      valid = rw more (All-push IsElement k.elements.items x.value keeps.valid ((reading.context_after past).frame_length, said.valid));
       mixes = old.mixes;
       valid_mixes = old.valid_mixes;
     })
     (units_as_before k s o (rw (p, said.holds.0) refl) keeps)
 
-pub keeps_mix : (k : Contents) (ms : Vec MixPresentation Global) (m : MixPresentation) (unit : ℕ) → ms.items ≡ k.mixes.items ++ m ∷ [] → IsKeptBy k (record k { mixes = ms }) (contents.MixPresentation m) unit
+pub keeps_mix : (k : Contents) (ms : Vec MixPresentation Global) (m : Box MixPresentation Global) (unit : ℕ) → ms.items ≡ k.mixes.items ++ m.value ∷ [] → IsKeptBy k (record k { mixes = ms }) (contents.MixPresentation m) unit
 keeps_mix k ms m unit more past e keeps admitted said adds =
     let s = values_of past in
     let o = e.value in
     let p : o.head.redundant ≡ false = plain (contents.MixPresentation m) past e types.MixPresentation said refl (λ y. cc) in
     let old = kept_as_before k s keeps in
-    keeps_with (record k { mixes = ms }) s o [] [] [] (mix_and_tail m ∷ []) (plain_ends o (specs.Mix (view_mix m)) (tail_of m) p said.holds.0 said.holds.1)
+    keeps_with (record k { mixes = ms }) s o [] [] [] (mix_and_tail m.value ∷ []) (plain_ends o (specs.Mix (view_mix m.value)) (tail_of m.value) p said.holds.0 said.holds.1)
     (record {
       header = old.header;
       codec = old.codec;
       elements = old.elements;
       valid = old.valid;
-      mixes = ap (map mix_and_tail) more ∙ map-append mix_and_tail k.mixes.items (m ∷ []) ∙ ap (λ (xs : List (MixPresentationFields × List ℕ)). xs ++ mix_and_tail m ∷ []) keeps.mixes;
-      valid_mixes = rw more (All-push IsValidMix k.mixes.items m keeps.valid_mixes said.valid);
+      mixes = ap (map mix_and_tail) more ∙ map-append mix_and_tail k.mixes.items (m.value ∷ []) ∙ ap (λ (xs : List (MixPresentationFields × List ℕ)). xs ++ mix_and_tail m.value ∷ []) keeps.mixes;
+      valid_mixes = rw more (All-push IsValidMix k.mixes.items m.value keeps.valid_mixes said.valid);
     })
     (units_as_before k s o (rw (p, said.holds.0) refl) keeps)
 

@@ -11,11 +11,11 @@ use Rattle.spec_values.specs.Value.{ObuValue}
 use Rattle.spec_rules.specs.Role.{Role}
 use Rattle.spec_rules.specs.Units.{is_data, unit_after, unit_count}
 use Rattle.spec_sequence.specs.Parts.{roles_of, obus_of, header_in, codec_in, element_in, mix_in, temporal_units}
-use Rattle.obu_descriptors.specs.HeaderView.{view_header}
-use Rattle.obu_descriptors.specs.CodecView.{StandsForCodec}
+use Rattle.obu_codec_config.specs.HeaderView.{view_header}
+use Rattle.obu_codec_config.specs.CodecView.{StandsForCodec}
 use Rattle.obu_descriptors.specs.ElementView.{view_element}
-use Rattle.obu_descriptors.specs.declared.sequence_header.SequenceHeader.{SequenceHeader}
-use Rattle.obu_descriptors.specs.declared.codec_config.CodecConfig.{CodecConfig}
+use Rattle.obu_codec_config.specs.declared.sequence_header.SequenceHeader.{SequenceHeader}
+use Rattle.obu_codec_config.specs.declared.codec_config.CodecConfig.{CodecConfig}
 use Rattle.obu_descriptors.specs.declared.audio_element.AudioElement.{AudioElement}
 use Rattle.obu_mix.specs.declared.mix_presentation.MixPresentation.{MixPresentation}
 use Rattle.obu_mix.specs.MixView.{view_mix, tail_of, IsValidMix}

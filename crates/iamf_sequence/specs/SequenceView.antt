@@ -7,8 +7,8 @@ use Rattle.spec_sequence.specs.Reading.{Entry, values_of, roles}
 use Rattle.spec_sequence.specs.Parts.{header_in, codec_in, element_in, mix_in, sequence_headers, codec_configs, audio_elements, mix_presentations, temporal_units}
 use Rattle.obu_header.specs.declared.view.ObuView.{ObuView}
 use Rattle.obu_header.specs.View.{head_of}
-use Rattle.obu_descriptors.specs.HeaderView.{view_header}
-use Rattle.obu_descriptors.specs.CodecView.{StandsForCodec}
+use Rattle.obu_codec_config.specs.HeaderView.{view_header}
+use Rattle.obu_codec_config.specs.CodecView.{StandsForCodec}
 use Rattle.obu_descriptors.specs.ElementView.{view_element}
 use Rattle.obu_mix.specs.MixView.{view_mix, IsValidMix}
 use Rattle.iamf_admission.specs.AdmissionView.{Stands}

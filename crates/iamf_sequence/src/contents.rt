@@ -81,11 +81,11 @@ impl<'a> Contents<'a> {
                 Ok(())
             }
             Content::AudioElement(element) => {
-                self.elements.push(element)?;
+                self.elements.push(Box::into_inner(element))?;
                 Ok(())
             }
             Content::MixPresentation(mix) => {
-                self.mixes.push(mix)?;
+                self.mixes.push(Box::into_inner(mix))?;
                 Ok(())
             }
             Content::ParameterBlock(block) => keep_block(&mut self.units, alloc, block, unit),

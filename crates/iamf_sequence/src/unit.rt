@@ -52,6 +52,10 @@ impl<'a> Unit<'a> {
         ensures is { OnOk result (view_unit self.new ≡ with_block block.entry (view_unit self.old)) }
         ensures consistent { OnOk result (HasNoOpaqueTail block.entry → IsConsistent self.old → IsConsistent self.new) }
     {
+        // Most units have at most one block, and a vector's first room is for four.
+        if self.blocks.is_empty() {
+            self.blocks.reserve_exact(1)?;
+        }
         self.blocks.push(block)?;
         Ok(())
     }

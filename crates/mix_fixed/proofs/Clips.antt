@@ -10,24 +10,12 @@ use Rattle.spec_demix.specs.Rounding.{rounded}
 pub held_within : (r : ℤ) (h : ℕ) → pos 0 ≤ℤ (r +ℤ pos h) → r <ℤ pos h → int_max (neg_ℤ (pos h)) (int_min r (pos h -ℤ pos 1)) ≡ r
 held_within r h low high = omega (arith, ints, clamps)
 
-pub held_below : (r : ℤ) (h : ℕ) → 1 ≤ h → (r +ℤ pos h) <ℤ pos 0 → int_max (neg_ℤ (pos h)) (int_min r (pos h -ℤ pos 1)) ≡ neg_ℤ (pos h)
-held_below r h some low = omega (arith, ints, clamps)
-
-pub held_beyond : (r : ℤ) (h : ℕ) → 1 ≤ h → pos h ≤ℤ r → int_max (neg_ℤ (pos h)) (int_min r (pos h -ℤ pos 1)) ≡ pos h -ℤ pos 1
-held_beyond r h some high = omega (arith, ints, clamps)
-
 -- the whole number nearest to a value
 within_low : (v r : ℤ) (h : ℕ) → (v +ℤ pos 134217728) <ℤ (r *ℤ pos 268435456 +ℤ pos 268435456) → pos 0 ≤ℤ (v +ℤ pos (134217728 + h * 268435456)) → pos 0 ≤ℤ (r +ℤ pos h)
 within_low v r h up low = omega (arith, ints)
 
-below : (v r : ℤ) (h : ℕ) → (r *ℤ pos 268435456) ≤ℤ (v +ℤ pos 134217728) → (v +ℤ pos (134217728 + h * 268435456)) <ℤ pos 0 → (r +ℤ pos h) <ℤ pos 0
-below v r h down low = omega (arith, ints)
-
 within_high : (v r : ℤ) (h : ℕ) → (r *ℤ pos 268435456) ≤ℤ (v +ℤ pos 134217728) → (v +ℤ pos (134217728 + h * 268435456)) <ℤ pos (h * 536870912) → r <ℤ pos h
 within_high v r h down high = omega (arith, ints)
-
-beyond : (v r : ℤ) (h : ℕ) → (v +ℤ pos 134217728) <ℤ (r *ℤ pos 268435456 +ℤ pos 268435456) → pos (h * 536870912) ≤ℤ (v +ℤ pos (134217728 + h * 268435456)) → pos h ≤ℤ r
-beyond v r h up high = omega (arith, ints)
 
 quotient : (v r : ℤ) (h : ℕ) → (r *ℤ pos 268435456) ≤ℤ (v +ℤ pos 134217728) → (v +ℤ pos 134217728) <ℤ (r *ℤ pos 268435456 +ℤ pos 268435456)
     → pos 0 ≤ℤ (v +ℤ pos (134217728 + h * 268435456)) → pos (unsigned_abs (v +ℤ pos (134217728 + h * 268435456)) / 268435456) -ℤ pos h ≡ r
@@ -41,18 +29,6 @@ rounded_within v h low high =
     let up = floor-high (v +ℤ pos (2 ^ 27)) (2 ^ 28) (omega arith) in
     quotient v r h down up low ∙ sym (held_within r h (within_low v r h up low) (within_high v r h down high))
 
-pub rounded_below : (v : ℤ) (h : ℕ) → 1 ≤ h → (v +ℤ pos (134217728 + h * 268435456)) <ℤ pos 0
-    → int_max (neg_ℤ (pos h)) (int_min (rounded v) (pos h -ℤ pos 1)) ≡ neg_ℤ (pos h)
-rounded_below v h some low =
-    let r = floor_of (v +ℤ pos (2 ^ 27)) (2 ^ 28) in
-    held_below r h some (below v r h (floor-low (v +ℤ pos (2 ^ 27)) (2 ^ 28) (omega arith)) low)
-
-pub rounded_beyond : (v : ℤ) (h : ℕ) → 1 ≤ h → pos (h * 536870912) ≤ℤ (v +ℤ pos (134217728 + h * 268435456))
-    → int_max (neg_ℤ (pos h)) (int_min (rounded v) (pos h -ℤ pos 1)) ≡ pos h -ℤ pos 1
-rounded_beyond v h some high =
-    let r = floor_of (v +ℤ pos (2 ^ 27)) (2 ^ 28) in
-    held_beyond r h some (beyond v r h (floor-high (v +ℤ pos (2 ^ 27)) (2 ^ 28) (omega arith)) high)
-
 -- a sample passes through 64 and 32 bits
 pub narrowed : (q h : ℕ) → q < 2 * h → h ≤ 2147483648 → to_z w32 (of_z w32 (to_z w64 (of_z w64 (to_z w64 q -ℤ to_z w64 h)))) ≡ pos q -ℤ pos h
 narrowed q h few small = omega (arith, ints)
@@ -64,17 +40,3 @@ quotient_below x h low high = omega (arith, ints)
 pub lifted : (v f : ℤ) (n : ℕ) → unsigned_abs v < 2 ^ 126 → f ≡ pos n → n ≤ 2 ^ 60
     → to_z w128 (of_z w128 (to_z w128 (of_z w128 v) +ℤ to_z w128 (of_z w128 f))) ≡ v +ℤ pos n
 lifted v f n few e small = omega (arith, ints)
-
--- what stands above the low 64 bits
-pub word_low : (x r : ℤ) → r ≡ floor_of x (2 ^ 64) → (r *ℤ pos 18446744073709551616) ≤ℤ x
-word_low x r e = rw e (floor-low x (2 ^ 64) (omega arith))
-
-pub word_high : (x r : ℤ) → r ≡ floor_of x (2 ^ 64) → x <ℤ (r *ℤ pos 18446744073709551616 +ℤ pos 18446744073709551616)
-word_high x r e = rw e (floor-high x (2 ^ 64) (omega arith))
-
--- the ends of the samples in 32 bits
-pub lowest : (h : ℕ) → h ≤ 2147483648 → to_z w32 (of_z w32 (neg_ℤ (pos h))) ≡ neg_ℤ (pos h)
-lowest h small = omega (arith, ints)
-
-pub highest : (h : ℕ) → 1 ≤ h → h ≤ 2147483648 → to_z w32 (of_z w32 (pos h -ℤ pos 1)) ≡ pos h -ℤ pos 1
-highest h some small = omega (arith, ints)

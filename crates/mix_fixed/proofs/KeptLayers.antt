@@ -11,8 +11,8 @@ use Rattle.spec_demix.specs.Sent.{layer_at, IsLayers}
 use Rattle.spec_demix.specs.Fits.{target_channels}
 use Rattle.spec_demix.specs.Sizes.{AreModest}
 use Rattle.spec_demix.specs.Elements.{demix_layer_of}
-use Rattle.obu_descriptors.specs.declared.layer.Layer.{Layer}
-use Rattle.obu_descriptors.specs.LayerView.{view_layer}
+use Rattle.obu_element_config.specs.declared.layer.Layer.{Layer}
+use Rattle.obu_element_config.specs.LayerView.{view_layer}
 use Rattle.demix_channels.specs.Gains.{HaveModestGains}
 use Rattle.demix_channels.proofs.SeenLayers.{seen, length-seen, modest_at}
 use Rattle.mix_fixed.specs.Kernel.{target_of, IsKernel}

@@ -34,7 +34,30 @@ fn split(x: i64, bottom: u32) -> (i64, u32)
     (x / bottom - 1, (x % bottom + bottom) as u32)
 }
 
-/// The floor of a number times a fraction.
+/// The floor of a number times a fraction, by its quotient and the rest.
+#[inline(always)]
+fn over_parts(times: u32, x: i64, bottom: u32) -> i64
+    requires times { times ≤ 1000 }
+    requires least { 707 ≤ bottom }
+    requires most { bottom ≤ 1000 }
+    requires small { unsigned_abs x ≤ 840 * hundredth }
+    ensures { result ≡ floor_of (pos times *ℤ x) bottom }
+{
+    let (whole, rest) = split(x, bottom);
+    i64::from(times) * whole + i64::from(times * rest / bottom)
+}
+
+/// The same bottom, of which the compiler now sees that it is not 0. A division that might trap is always done: without this, what
+/// no channel of the target needs would be computed with the rest.
+#[inline(always)]
+fn never_zero(bottom: u32) -> u32
+    requires { 0 < bottom }
+    ensures { result ≡ bottom }
+{
+    bottom.max(1)
+}
+
+/// The floor of a number times a fraction. Such large numbers are rare, so this stands apart from the way of the others.
 #[cold]
 #[inline(never)]
 fn over_far(times: u32, x: i64, bottom: u32) -> i64
@@ -44,8 +67,7 @@ fn over_far(times: u32, x: i64, bottom: u32) -> i64
     requires small { unsigned_abs x ≤ 840 * hundredth }
     ensures { result ≡ floor_of (pos times *ℤ x) bottom }
 {
-    let (whole, rest) = split(x, bottom);
-    i64::from(times) * whole + i64::from(times * rest / bottom)
+    over_parts(times, x, never_zero(bottom))
 }
 
 /// What a number has above its low 64 bits.

@@ -4,8 +4,6 @@ ghost use Rattle.std.specs.Prelude.{◌≡◌, ◌-◌, ◌^◌, ◌<◌, ◌≤
 ghost use Rattle.spec_demix.specs.Floor.{floor_of};
 ghost use Rattle.spec_demix.specs.Rounding.{clipped, rounded};
 
-use crate::floors::high_word;
-
 /// The gain of 0 dB.
 const ONE: u64 = 1_000_000_000_000;
 
@@ -36,25 +34,17 @@ fn half_range(depth: u8) -> u64
     1 << (depth - 1)
 }
 
-/// What a number has above its low 64 bits.
-#[inline(always)]
-fn high_half(x: i128) -> i64
-    ensures { result ≡ floor_of x (2 ^ 64) }
-{
-    high_word(x) as i64
-}
-
 /// The sample that values beyond the samples are held to: the lowest, where what they lie above the lowest that is rounded to
 /// a sample is negative, and the highest. Loud sound is rare, so this stands apart from the way of the others.
 #[cold]
 #[inline(never)]
-fn end_of(high: i64, half: u64) -> i32
+fn end_of(above: i128, half: u64) -> i32
     requires some { 1 ≤ half }
     requires small { half ≤ 2 ^ 31 }
-    ensures low { high <ℤ pos 0 → result ≡ neg_ℤ (pos half) }
-    ensures high { pos 0 ≤ℤ high → result ≡ pos half -ℤ pos 1 }
+    ensures low { above <ℤ pos 0 → result ≡ neg_ℤ (pos half) }
+    ensures high { pos 0 ≤ℤ above → result ≡ pos half -ℤ pos 1 }
 {
-    if high < 0 {
+    if above < 0 {
         -(half as i64) as i32
     } else {
         (half as i64 - 1) as i32
@@ -73,12 +63,11 @@ pub fn round_clip(value: i128, depth: u8) -> i32
     ensures { result ≡ clipped depth (rounded value) }
 {
     let half = half_range(depth);
-    // how far the value lies above the lowest that is rounded to a sample: one test in place of two
+    // how far the value lies above the lowest that is rounded to a sample: both bounds are one test in machine code
     let above = value + i128::from(0x800_0000 + half * 0x1000_0000);
-    let high = high_half(above);
-    if high == 0 && (above as u64) < half * 0x2000_0000 {
+    if 0 <= above && above < i128::from(half * 0x2000_0000) {
         ((above as u64 / 0x1000_0000) as i64 - half as i64) as i32
     } else {
-        end_of(high, half)
+        end_of(above, half)
     }
 }

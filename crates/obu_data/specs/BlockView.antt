@@ -2,7 +2,7 @@
 use Rattle.std.specs.Prelude.{ℕ, List, [], ◌++◌, map, option_map}
 use Rattle.std.specs.List.{zip}
 use Rattle.spec_blocks.specs.ParameterBlock as fields
-use Rattle.obu_descriptors.specs.TimingView.{view_fixed}
+use Rattle.obu_timing.specs.TimingView.{view_fixed}
 use Rattle.obu_data.specs.declared.gain_part.GainPart.{GainPart}
 use Rattle.obu_data.specs.declared.gain_part.GainPart.TheVariants.{Step, Linear, Bezier}
 use Rattle.obu_data.specs.declared.recon_part.ReconPart.{ReconPart}

@@ -2,7 +2,7 @@
 use Rattle.std.specs.Prelude.{◌≡◌, ◌^◌, ◌<◌, ◌≤◌, [], Option, Some, None, option_map}
 use Rattle.spec_descriptors.specs.ParameterDefinition.{FixedFields}
 use Rattle.spec_blocks.specs.Shape as fields
-use Rattle.obu_descriptors.specs.TimingView.{view_fixed}
+use Rattle.obu_timing.specs.TimingView.{view_fixed}
 use Rattle.obu_data.specs.declared.definition.Shape.{Shape}
 use Rattle.obu_data.specs.declared.definition.Shape.TheVariants.{Gain, Demix, Recon}
 

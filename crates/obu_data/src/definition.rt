@@ -1,6 +1,6 @@
 //! The definition of a parameter (IAMF 1.0.0, "Parameter Definition Syntax and Semantics").
 
-use obu_descriptors::Cadence;
+use obu_timing::Cadence;
 
 /// What the definitions of one parameter have to agree on: its kind and its timing. Default values are in no shape.
 #[derive(Debug, Drop)]

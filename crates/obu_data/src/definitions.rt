@@ -1,12 +1,12 @@
 //! The definitions that parameter blocks are read by.
 ghost use Rattle.std.specs.Prelude.{◌≡◌, ◌↔◌, true, [], option_map, IfSome};
-ghost use Rattle.obu_descriptors.specs.TimingView.{view_fixed};
+ghost use Rattle.obu_timing.specs.TimingView.{view_fixed};
 ghost use Rattle.spec_blocks.specs.Shape.{shape_of};
 ghost use Rattle.obu_data.specs.ShapeView.{view_shape, MayDefine};
 ghost use Rattle.obu_data.specs.Adding.{Finds, Adds};
 
 use crate::definition::{Definition, Shape};
-use obu_descriptors::{Cadence, Fixed};
+use obu_timing::{Cadence, Fixed};
 use std::alloc::{AllocError, Global};
 use std::collections::BTreeMap;
 use std::marker::Model;

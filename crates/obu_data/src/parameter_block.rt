@@ -14,9 +14,9 @@ ghost use Rattle.obu_data.specs.BlockView.{view_content, view_block, IsKnown, vi
 ghost use Rattle.obu_data.specs.BlockReading.{ReadsBlock, SpellsBlock, FollowsShape};
 ghost use Rattle.spec_bits.specs.Bits.{AreBytes, all_bits};
 ghost use Rattle.spec_syntax.specs.Repetition.{joined};
-ghost use Rattle.obu_descriptors.specs.TimingView.{view_fixed};
+ghost use Rattle.obu_timing.specs.TimingView.{view_fixed};
 ghost use Rattle.spec_syntax.specs.Fitting.{AllFit};
-ghost use Rattle.obu_descriptors.specs.Writing.{Puts};
+ghost use Rattle.obu_timing.specs.Writing.{Puts};
 
 use crate::BlockError;
 use crate::definition::Shape;
@@ -24,7 +24,7 @@ use crate::definitions::Definitions;
 use crate::gain_part::{GainPart, defined_gains_of, own_gains_of, put_gain_parts, put_own_gains};
 use crate::recon_part::{ReconPart, put_recon_parts, recon_gains_of};
 use iamf_bits::{Out, Unread, View};
-use obu_descriptors::Fixed;
+use obu_timing::Fixed;
 use smallvec::SmallVec;
 use spec_blocks::BlockFault;
 use std::alloc::{AllocError, Global};

@@ -11,15 +11,15 @@ ghost use Rattle.spec_bits.specs.Bits.{all_bits};
 ghost use Rattle.spec_syntax.specs.Payload.{Payload, IsValid, canon};
 ghost use Rattle.spec_syntax.specs.Repetition.{joined};
 ghost use Rattle.spec_blocks.specs.BlockFieldLists.{gain_fields, timed_gain_fields, subblock_fields, gains_fields, recon_fields, content_fields, block_fields};
-ghost use Rattle.obu_descriptors.specs.TimingView.{view_fixed};
+ghost use Rattle.obu_timing.specs.TimingView.{view_fixed};
 ghost use Rattle.spec_syntax.specs.Fitting.{AllFit};
-ghost use Rattle.obu_descriptors.specs.Writing.{Puts};
+ghost use Rattle.obu_timing.specs.Writing.{Puts};
 
 use crate::BlockError;
 use crate::definitions::Definitions;
 use crate::parameter_block::BlockContent;
 use iamf_bits::{Out, Unread, View};
-use obu_descriptors::Fixed;
+use obu_timing::Fixed;
 use smallvec::SmallVec;
 use spec_blocks::BlockFault;
 use std::alloc::{AllocError, Global};

@@ -6,7 +6,7 @@ use Rattle.spec_descriptors.specs.Layers.{LayerFields}
 use Rattle.spec_descriptors.specs.AudioElement.{coupled_first}
 use Rattle.spec_descriptors.proofs.OnEach.{Each}
 use Rattle.spec_descriptors.proofs.ElementCounts.{IsCoupled}
-use Rattle.obu_descriptors.specs.declared.layer.Layer.{Layer}
+use Rattle.obu_element_config.specs.declared.layer.Layer.{Layer}
 use Rattle.obu_descriptors.specs.Channels.{AreCoupled}
 
 pub each_coupled : (list : List LayerFields) → Each IsCoupled list → AreCoupled list

@@ -1,13 +1,2 @@
-pub mod Answering
-pub mod Written
-pub mod Walking
-pub mod FixedSpelling
-pub mod FlacBytes
-pub mod CodecReading
-pub mod ReadingBack
-pub mod Lists
-pub mod Mapping
-pub mod Counts
 pub mod ElementAnswers
-pub mod Spelling
 pub mod Coupled

@@ -4,7 +4,7 @@ use Rattle.spec_descriptors.specs.AudioElement.{FrontFields, AudioElementFields}
 use Rattle.obu_descriptors.specs.declared.audio_element.AudioElement.{AudioElement}
 use Rattle.obu_descriptors.specs.declared.audio_element.Front.{Front}
 use Rattle.obu_descriptors.specs.ParameterView.{view_param}
-use Rattle.obu_descriptors.specs.ConfigView.{view_config}
+use Rattle.obu_element_config.specs.ConfigView.{view_config}
 
 abbrev pub view_front : Front → FrontFields
 view_front front = record {

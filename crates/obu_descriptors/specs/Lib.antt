@@ -1,15 +1,4 @@
-pub mod Payloads
-pub mod HeaderView
-pub mod SameRecord
-pub mod WrittenPayloads
-pub mod CodecWriting
-pub mod CodecView
-pub mod TimingView
 pub mod ParameterView
-pub mod LayerView
-pub mod AmbisonicsView
-pub mod ConfigView
 pub mod ElementView
 pub mod ElementReading
-pub mod Writing
 pub mod Channels

@@ -12,13 +12,13 @@ ghost use Rattle.obu_descriptors.specs.ElementView.{view_front, view_element};
 ghost use Rattle.obu_descriptors.specs.ElementReading.{ReadsElement, AnswersElement, ReadsAs};
 ghost use Rattle.spec_bits.specs.Bits.{AreBytes, all_bits};
 ghost use Rattle.spec_syntax.specs.Fitting.{AllFit};
-ghost use Rattle.obu_descriptors.specs.ConfigView.{view_config};
+ghost use Rattle.obu_element_config.specs.ConfigView.{view_config};
 
 use crate::DescriptorError;
-use crate::config::{ElementConfig, put_config, read_config};
-use crate::numbers::put_numbers;
 use crate::parameter::{Param, put_params, read_params};
 use iamf_bits::{Out, View};
+use obu_element_config::{ElementConfig, put_config, read_config};
+use obu_timing::put_numbers;
 use smallvec::SmallVec;
 use spec_descriptors::DescriptorFault;
 use std::alloc::{AllocError, Global};
@@ -203,7 +203,7 @@ impl<'a> AudioElement<'a> {
     /// Writes the canonical payload: each number in the shortest leb128, reserved bits 0, and then the tail. The element
     /// must be valid for some frame length, as each is that was read; for each such length `read` gives it back. An error
     /// only where memory runs out.
-    #[tactic(auto, using(crate::proofs::Spelling::bytes_spelled))]
+    #[tactic(auto, using(obu_timing::proofs::Spelling::bytes_spelled))]
     pub fn write(&self, alloc: Global) -> Result<Vec<u8>, AllocError>
         requires { (frame_length : ℕ) × IsValid (audio_element frame_length) audio_element_fields (view_element self.now) }
         ensures canonical { IfOk result (λ payload. all_bits payload.items ≡ canon (audio_element_fields (view_element self.now)) ++ all_bits self.now.tail.now) }

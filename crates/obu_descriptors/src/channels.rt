@@ -4,13 +4,12 @@ ghost use Rattle.std.specs.Prelude.{◌≡◌, ℕ, ◌+◌, ◌<◌, ◌≤◌,
 ghost use Rattle.spec_syntax.specs.Payload.{IsValid};
 ghost use Rattle.spec_descriptors.specs.AudioElement.{audio_element, coupled_first, layer_channels, substream_channels_of, coded_channels_of};
 ghost use Rattle.spec_descriptors.specs.ElementFields.{audio_element_fields};
-ghost use Rattle.obu_descriptors.specs.LayerView.{view_layer};
+ghost use Rattle.obu_element_config.specs.LayerView.{view_layer};
 ghost use Rattle.obu_descriptors.specs.ElementView.{view_element};
 ghost use Rattle.obu_descriptors.specs.Channels.{AreCoupled};
 
 use crate::audio_element::AudioElement;
-use crate::config::ElementConfig;
-use crate::layer::Layer;
+use obu_element_config::{ElementConfig, Layer};
 
 /// How many channels the layers transmit: one for each substream, and one more for each coupled one.
 fn layers_channels(layers: &[Layer]) -> u32

@@ -11,12 +11,12 @@ ghost use Rattle.obu_descriptors.specs.ParameterView.{view_param};
 ghost use Rattle.spec_bits.specs.Form.{Leb128};
 ghost use Rattle.spec_syntax.specs.Payload.{a_field, canon};
 ghost use Rattle.spec_syntax.specs.Repetition.{joined};
-ghost use Rattle.spec_descriptors.specs.ElementFields.{default_fields, sized_fields, parameter_fields};
+ghost use Rattle.spec_descriptors.specs.ElementFields.{default_fields, parameter_fields};
 ghost use Rattle.spec_syntax.specs.Fitting.{AllFit};
 
 use crate::DescriptorError;
-use crate::timing::{Timing, put_timing, read_timing};
 use iamf_bits::{Out, Unread, View};
+use obu_timing::{Timing, put_sized, put_timing, read_timing};
 use smallvec::SmallVec;
 use spec_descriptors::DescriptorFault;
 use std::alloc::{AllocError, Global};
@@ -77,7 +77,7 @@ fn has_kind(params: &[Param<'_>], kind: u32) -> bool
 
 /// Whether a type may not stand after the parameters before it, in an element of this type: 0 is none, and 1 and 2
 /// stand at most once each, and in scalable elements alone.
-#[tactic(auto, using(crate::proofs::Lists::list_any_map))]
+#[tactic(auto, using(obu_element_config::proofs::Lists::list_any_map))]
 fn is_refused_kind(element_type: u8, before: &[Param<'_>], kind: u32) -> bool
     ensures { result ≡ is_refused_kind element_type (map view_param before.now) kind }
 {
@@ -203,19 +203,6 @@ fn put_defaults(out: &mut Out, mode: u8, weight: u8) -> Result<(), AllocError>
     out.put_zeros(5)?;
     out.put_bits(u32::from(weight), 4)?;
     out.put_zeros(4)?;
-    Ok(())
-}
-
-/// Puts bytes after their number.
-#[tactic(auto, using(spec_bits::proofs::JoinLaws::joins))]
-pub(crate) fn put_sized(out: &mut Out, bytes: &[u8]) -> Result<(), AllocError>
-    requires used { out.old.used ≡ 0 }
-    requires few { length bytes.now < 2 ^ 32 }
-    ensures bits { OnOk result (out.new.bits ≡ out.old.bits ++ canon (sized_fields bytes.now)) }
-    ensures used { OnOk result (out.new.used ≡ 0) }
-{
-    out.put_leb(bytes.len() as u32)?;
-    out.put_bytes(bytes)?;
     Ok(())
 }
 

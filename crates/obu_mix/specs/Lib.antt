@@ -1,6 +1,3 @@
-pub mod MixGainView
-pub mod LoudnessView
-pub mod MixElementView
 pub mod SubMixView
 pub mod TagView
 pub mod MixView

@@ -2,9 +2,9 @@
 use Rattle.std.specs.Prelude.{map}
 use Rattle.spec_descriptors.specs.MixPresentation.{SubMixFields}
 use Rattle.obu_mix.specs.declared.sub_mix.SubMix.{SubMix}
-use Rattle.obu_mix.specs.MixGainView.{view_mix_gain}
-use Rattle.obu_mix.specs.MixElementView.{view_mix_element}
-use Rattle.obu_mix.specs.LoudnessView.{view_loudness}
+use Rattle.obu_mix_elements.specs.MixGainView.{view_mix_gain}
+use Rattle.obu_mix_elements.specs.MixElementView.{view_mix_element}
+use Rattle.obu_loudness.specs.LoudnessView.{view_loudness}
 
 abbrev pub view_sub_mix : SubMix → SubMixFields
 view_sub_mix s = record {

@@ -11,13 +11,13 @@ ghost use Rattle.obu_mix.specs.TagView.{tags_bytes, CanBeTagged};
 ghost use Rattle.obu_mix.specs.MixReading.{AnswersMix, GivesMix};
 ghost use Rattle.spec_bits.specs.Bits.{all_bits};
 ghost use Rattle.spec_syntax.specs.Fitting.{AllFit};
-ghost use Rattle.obu_descriptors.specs.Writing.{Puts};
+ghost use Rattle.obu_timing.specs.Writing.{Puts};
 
 use crate::MixError;
 use crate::sub_mix::{SubMix, put_sub_mixes, sub_mixes_of};
 use crate::tag::{Tag, put_tags, split_tags};
-use crate::text::{put_texts, texts_of};
 use iamf_bits::{Out, View};
+use obu_mix_elements::{put_texts, texts_of};
 use smallvec::SmallVec;
 use spec_descriptors::MixFault;
 use std::alloc::{AllocError, Global};

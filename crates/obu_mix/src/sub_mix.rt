@@ -10,14 +10,13 @@ ghost use Rattle.obu_mix.specs.SubMixView.{view_sub_mix};
 ghost use Rattle.spec_syntax.specs.Repetition.{joined};
 ghost use Rattle.spec_descriptors.specs.MixFields.{sub_mix_fields, sub_mixes_fields};
 ghost use Rattle.spec_syntax.specs.Fitting.{AllFit};
-ghost use Rattle.obu_descriptors.specs.Writing.{Puts};
+ghost use Rattle.obu_timing.specs.Writing.{Puts};
 
 use crate::MixError;
-use crate::loudness::{LayoutLoudness, loudness_of, put_layouts};
-use crate::mix_element::{MixElement, elements_of, put_elements};
-use crate::mix_gain::{MixGain, mix_gain_of, put_mix_gain};
 use iamf_bits::{Out, View};
-use obu_descriptors::Timing;
+use obu_loudness::{LayoutLoudness, loudness_of, put_layouts};
+use obu_mix_elements::{MixElement, MixGain, elements_of, mix_gain_of, put_elements, put_mix_gain};
+use obu_timing::Timing;
 use smallvec::SmallVec;
 use spec_descriptors::MixFault;
 use std::alloc::{AllocError, Global};

@@ -1,7 +1,7 @@
 //! Parameter blocks, their definitions, and audio frames.
 
 ghost use Rattle.std.specs.Prelude.{◌≡◌, option_map};
-ghost use Rattle.obu_descriptors.specs.TimingView.{view_fixed};
+ghost use Rattle.obu_timing.specs.TimingView.{view_fixed};
 ghost use Rattle.obu_data.specs.ShapeView.{LastsAFrame, MayDefine};
 
 use obu_data::*;

@@ -1,4 +1,4 @@
-use Rattle.std.proofs.Common.{arith, ◌≡◌, ◌<◌, ◌≤◌, ℕ, zero, suc, ℤ, pos, ◌+ℤ◌, ◌-ℤ◌, ◌*ℤ◌, ◌≤ℤ◌, ◌*◌, ◌+◌, ◌-◌, ◌^◌, ap, refl, sym, ◌∙◌, unsigned_abs}
+use Rattle.std.proofs.Common.{arith, ◌≡◌, ◌<◌, ◌≤◌, ℕ, zero, suc, ℤ, pos, ◌+ℤ◌, ◌-ℤ◌, ◌*ℤ◌, ◌*◌, ◌+◌, ◌-◌, ap, refl, sym, ◌∙◌}
 use Rattle.std.proofs.lemmas.Int.{ints}
 use Rattle.spec_demix.proofs.Errors.{chain_held}
 use Rattle.spec_demix.proofs.FloorLemmas.{distribute, swapped, swapped_left, spread, passes}
@@ -11,7 +11,7 @@ use Rattle.spec_demix.specs.declared.Bed.{Bed}
 use Rattle.spec_demix.specs.declared.Kind.{Kind}
 use Rattle.spec_demix.specs.declared.Side.{Side}
 use Rattle.spec_demix.specs.declared.Tops.{Tops}
-use Rattle.spec_gains.proofs.ModeLemmas.{Row, gamma_of, delta_of, Zero, One, Two, of}
+use Rattle.spec_gains.proofs.ModeLemmas.{Row, alpha_of, beta_of, gamma_of, delta_of, of}
 
 -- ---- the difference of two lists that fit
 
@@ -53,44 +53,28 @@ times : (k l m : ℕ) (x y z : ℤ) (b : ℕ) → pos k *ℤ x ≡ pos l *ℤ y 
 times k l m x y z b e =
     sym (swapped_left x k b) ∙ ap (λ t. t *ℤ pos b) e ∙ distribute (pos l *ℤ y) (pos m *ℤ z) (pos b) ∙ ap (λ t. t +ℤ (pos m *ℤ z) *ℤ pos b) (swapped_left y l b) ∙ ap (λ t. pos l *ℤ (y *ℤ pos b) +ℤ t) (swapped_left z m b)
 
+crossed_sum : (k l m a b : ℕ) (t x z t' x' z' : ℤ) → pos k *ℤ t ≡ pos l *ℤ x +ℤ pos m *ℤ z → pos k *ℤ t' ≡ pos l *ℤ x' +ℤ pos m *ℤ z'
+    → pos k *ℤ cross a b t t' ≡ pos l *ℤ cross a b x x' +ℤ pos m *ℤ cross a b z z'
+crossed_sum k l m a b t x z t' x' z' e f =
+    let g = times k l m t x z b e in
+    let h = times k l m t' x' z' a f in
+    let p = spread k (t *ℤ pos b) (t' *ℤ pos a) in
+    let q = spread l (x *ℤ pos b) (x' *ℤ pos a) in
+    let r = spread m (z *ℤ pos b) (z' *ℤ pos a) in
+    omega (arith, ints)
+
 -- the difference is joined as the two are
 crossed_joined : (kind : ℕ) (mode : Row) (a b : ℕ) (c d : ℤ) (v w : Side) → IsJoined kind mode c v → IsJoined kind mode d w → IsJoined kind mode (cross a b c d) (cross_side a b v w)
-crossed_joined kind Zero a b c d v w j k = record {
-  two = λ h. let e = times 1000 1000 707 v.two v.three c b (j.two h) in let f = times 1000 1000 707 w.two w.three d a (k.two h) in omega (arith, ints);
-  three = λ h. let e = times 1000 1000 707 v.three v.five v.surround b (j.three h) in let f = times 1000 1000 707 w.three w.five w.surround a (k.three h) in omega (arith, ints);
-  surround = λ h. let e = times 1000 1000 1000 v.surround v.side v.rear b (j.surround h) in let f = times 1000 1000 1000 w.surround w.side w.rear a (k.surround h) in omega (arith, ints);
+crossed_joined kind mode a b c d v w j k = record {
+  two = λ h. crossed_sum 1000 1000 707 a b v.two v.three c w.two w.three d (j.two h) (k.two h);
+  three = λ h. crossed_sum 1000 1000 (delta_of mode) a b v.three v.five v.surround w.three w.five w.surround (j.three h) (k.three h);
+  surround = λ h. crossed_sum 1000 (alpha_of mode) (beta_of mode) a b v.surround v.side v.rear w.surround w.side w.rear (j.surround h) (k.surround h);
 }
-crossed_joined kind One a b c d v w j k = record {
-  two = λ h. let e = times 1000 1000 707 v.two v.three c b (j.two h) in let f = times 1000 1000 707 w.two w.three d a (k.two h) in omega (arith, ints);
-  three = λ h. let e = times 1000 1000 707 v.three v.five v.surround b (j.three h) in let f = times 1000 1000 707 w.three w.five w.surround a (k.three h) in omega (arith, ints);
-  surround = λ h. let e = times 1000 707 707 v.surround v.side v.rear b (j.surround h) in let f = times 1000 707 707 w.surround w.side w.rear a (k.surround h) in omega (arith, ints);
-}
-crossed_joined kind Two a b c d v w j k = record {
-  two = λ h. let e = times 1000 1000 707 v.two v.three c b (j.two h) in let f = times 1000 1000 707 w.two w.three d a (k.two h) in omega (arith, ints);
-  three = λ h. let e = times 1000 1000 866 v.three v.five v.surround b (j.three h) in let f = times 1000 1000 866 w.three w.five w.surround a (k.three h) in omega (arith, ints);
-  surround = λ h. let e = times 1000 1000 866 v.surround v.side v.rear b (j.surround h) in let f = times 1000 1000 866 w.surround w.side w.rear a (k.surround h) in omega (arith, ints);
-}
-
-crossed_three : (k a b : ℕ) (t two ls t' two' ls' : ℤ) → pos 10000000 *ℤ t ≡ pos 10000000 *ℤ two +ℤ pos k *ℤ ls → pos 10000000 *ℤ t' ≡ pos 10000000 *ℤ two' +ℤ pos k *ℤ ls'
-    → pos 10000000 *ℤ cross a b t t' ≡ pos 10000000 *ℤ cross a b two two' +ℤ pos k *ℤ cross a b ls ls'
-crossed_three k a b t two ls t' two' ls' e f =
-    let g = times 10000000 10000000 k t two ls b e in
-    let h = times 10000000 10000000 k t' two' ls' a f in
-    let s = spread k (ls *ℤ pos b) (ls' *ℤ pos a) in
-    omega (arith, ints)
-
-crossed_two : (k a b : ℕ) (t four back t' four' back' : ℤ) → pos 1000 *ℤ t ≡ pos 1000 *ℤ four +ℤ pos k *ℤ back → pos 1000 *ℤ t' ≡ pos 1000 *ℤ four' +ℤ pos k *ℤ back'
-    → pos 1000 *ℤ cross a b t t' ≡ pos 1000 *ℤ cross a b four four' +ℤ pos k *ℤ cross a b back back'
-crossed_two k a b t four back t' four' back' e f =
-    let g = times 1000 1000 k t four back b e in
-    let h = times 1000 1000 k t' four' back' a f in
-    let s = spread k (back *ℤ pos b) (back' *ℤ pos a) in
-    omega (arith, ints)
 
 crossed_tops_joined : (kind : Kind) (mode : Row) (w a b : ℕ) (ls ls' : ℤ) (v v' : Tops) → IsTopJoined kind mode w ls v → IsTopJoined kind mode w ls' v' → IsTopJoined kind mode w (cross a b ls ls') (cross_tops a b v v')
 crossed_tops_joined kind mode w a b ls ls' v v' j k = record {
-  three = λ h. crossed_three (w * delta_of mode) a b v.three v.two ls v'.three v'.two ls' (j.three h) (k.three h);
-  two = λ h. crossed_two (gamma_of mode) a b v.two v.four v.back v'.two v'.four v'.back (j.two h) (k.two h);
+  three = λ h. crossed_sum 10000000 10000000 (w * delta_of mode) a b v.three v.two ls v'.three v'.two ls' (j.three h) (k.three h);
+  two = λ h. crossed_sum 1000 1000 (gamma_of mode) a b v.two v.four v.back v'.two v'.four v'.back (j.two h) (k.two h);
 }
 
 -- two that carry one sample agree
@@ -113,10 +97,13 @@ joined_below now kind mode c v up j = record {
 zero_near : (k : ℕ) (z : ℤ) → z ≡ pos 0 → Near k 0 z
 zero_near k z e = omega (arith, ints)
 
+split_by_nothing : (k : ℕ) (two four back : ℤ) → pos 1000 *ℤ two ≡ pos 1000 *ℤ four +ℤ pos k *ℤ back → Near k 0 (pos k *ℤ back -ℤ pos 1000 *ℤ two +ℤ pos 1000 *ℤ four)
+split_by_nothing k two four back e = zero_near k (pos k *ℤ back -ℤ pos 1000 *ℤ two +ℤ pos 1000 *ℤ four) (omega (arith, ints))
+
 -- a side that is joined and carries nothing makes a step from itself to itself with no error
 joined_step : (before now : ℕ) (mode : Row) (c : ℤ) (e : Side) → IsJoined now mode c e → (before < 3 → 3 ≤ now → c ≡ pos 0) → (before < 5 → 5 ≤ now → e.five ≡ pos 0)
     → (before < 7 → 7 ≤ now → e.side ≡ pos 0) → (before < 2 → 2 ≤ now → Near 3 0 e.two) → IsStep before now mode 0 c e e
-joined_step before now Zero c e j center five side two = record {
+joined_step before now mode c e j center five side two = record {
   two_kept = λ h. refl;
   two = two;
   three_kept = λ h. refl;
@@ -125,41 +112,11 @@ joined_step before now Zero c e j center five side two = record {
   five_kept = λ h. refl;
   five = λ l n. zero_near 1 e.five (five l n);
   surround_kept = λ h. refl;
-  surround = λ l n. let x = j.three n in omega (arith, ints);
+  surround = λ l n. split_by_nothing (delta_of mode) e.three e.five e.surround (j.three n);
   side_kept = λ h. refl;
   side = λ l n. zero_near 1 e.side (side l n);
   rear_kept = λ h. refl;
-  rear = λ l n. let x = j.surround n in omega (arith, ints);
-}
-joined_step before now One c e j center five side two = record {
-  two_kept = λ h. refl;
-  two = two;
-  three_kept = λ h. refl;
-  three = λ l n. let x = j.two n in omega (arith, ints);
-  given = λ l n. zero_near 1 c (center l n);
-  five_kept = λ h. refl;
-  five = λ l n. zero_near 1 e.five (five l n);
-  surround_kept = λ h. refl;
-  surround = λ l n. let x = j.three n in omega (arith, ints);
-  side_kept = λ h. refl;
-  side = λ l n. zero_near 1 e.side (side l n);
-  rear_kept = λ h. refl;
-  rear = λ l n. let x = j.surround n in omega (arith, ints);
-}
-joined_step before now Two c e j center five side two = record {
-  two_kept = λ h. refl;
-  two = two;
-  three_kept = λ h. refl;
-  three = λ l n. let x = j.two n in omega (arith, ints);
-  given = λ l n. zero_near 1 c (center l n);
-  five_kept = λ h. refl;
-  five = λ l n. zero_near 1 e.five (five l n);
-  surround_kept = λ h. refl;
-  surround = λ l n. let x = j.three n in omega (arith, ints);
-  side_kept = λ h. refl;
-  side = λ l n. zero_near 1 e.side (side l n);
-  rear_kept = λ h. refl;
-  rear = λ l n. let x = j.surround n in omega (arith, ints);
+  rear = λ l n. let x = j.surround n in zero_near (beta_of mode) (pos (beta_of mode) *ℤ e.rear -ℤ pos 1000 *ℤ e.surround +ℤ pos (alpha_of mode) *ℤ e.side) (omega (arith, ints));
 }
 
 pub tops_joined_below : (now kind : Kind) (mode : Row) (w : ℕ) (ls : ℤ) (v : Tops) → now.surround ≤ kind.surround → now.height ≤ kind.height → IsTopJoined kind mode w ls v → IsTopJoined now mode w ls v
@@ -167,9 +124,6 @@ tops_joined_below now kind mode w ls v up climb j = record { three = λ h. j.thr
 
 left_by_nothing : (k : ℕ) (two three ls : ℤ) → pos 10000000 *ℤ three ≡ pos 10000000 *ℤ two +ℤ pos k *ℤ ls → Near 10000000 0 (pos 10000000 *ℤ two -ℤ pos 10000000 *ℤ three +ℤ pos k *ℤ ls)
 left_by_nothing k two three ls e = omega (arith, ints)
-
-split_by_nothing : (k : ℕ) (two four back : ℤ) → pos 1000 *ℤ two ≡ pos 1000 *ℤ four +ℤ pos k *ℤ back → Near k 0 (pos k *ℤ back -ℤ pos 1000 *ℤ two +ℤ pos 1000 *ℤ four)
-split_by_nothing k two four back e = zero_near k (pos k *ℤ back -ℤ pos 1000 *ℤ two +ℤ pos 1000 *ℤ four) (omega (arith, ints))
 
 -- two lists that fit carry the same tops
 agree_tops : (before now : Kind) (a b : ℕ) (v w y : Tops) → CarriesNextTops before now a v y → CarriesNextTops before now b w y → (mode : Row) (weight : ℕ) (ls : ℤ) → IsTopJoined now mode weight ls (cross_tops a b v w)

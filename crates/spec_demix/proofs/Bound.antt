@@ -1,4 +1,4 @@
-use Rattle.std.proofs.Common.{arith, ◌≡◌, ◌<◌, ◌≤◌, ℕ, zero, suc, ℤ, pos, ◌+ℤ◌, ◌-ℤ◌, ◌*ℤ◌, ◌≤ℤ◌, ◌*◌, ◌+◌, ◌-◌, ◌^◌, ap, refl, sym, ◌∙◌, unsigned_abs}
+use Rattle.std.proofs.Common.{arith, ◌≡◌, ◌≤◌, ℕ, suc, ℤ, pos, ◌+ℤ◌, ◌-ℤ◌, ◌*ℤ◌, ◌*◌, refl}
 use Rattle.std.proofs.lemmas.Int.{ints}
 use Rattle.spec_demix.proofs.Agreement.{joined_below, tops_joined_below, mono_down, rises_up}
 use Rattle.spec_demix.proofs.Errors.{chain_held}

@@ -1,4 +1,4 @@
-use Rattle.std.proofs.Common.{arith, ◌≡◌, ◌<◌, ◌≤◌, ℕ, zero, suc, ℤ, pos, ◌+ℤ◌, ◌-ℤ◌, ◌*ℤ◌, ◌*◌, unsigned_abs}
+use Rattle.std.proofs.Common.{arith, ◌<◌, ◌≤◌, ℕ, zero, suc, ℤ, pos, ◌+ℤ◌, ◌-ℤ◌, ◌*ℤ◌, ◌*◌, unsigned_abs}
 use Rattle.std.proofs.lemmas.Int.{ints}
 use Rattle.std.proofs.Math.Logic.{⊎_elim}
 use Rattle.std.proofs.lemmas.Bool.{cases_lt}
@@ -9,7 +9,7 @@ use Rattle.spec_demix.specs.declared.Kind.{Kind}
 use Rattle.spec_demix.specs.declared.Side.{Side}
 use Rattle.spec_demix.specs.declared.Tops.{Tops}
 use Rattle.spec_gains.proofs.ModeLemmas.{Row, alpha_of, beta_of, gamma_of, delta_of, Zero, One, Two}
-use Rattle.std.proofs.Math.Nat.{mul-le-mul, mul-le-mul_right}
+use Rattle.std.proofs.Math.Nat.{mul-le-mul}
 use Rattle.std.proofs.lemmas.Int.{unsigned_abs-mul}
 
 three_near : (u : ℕ) (two three center : ℤ) → Near 3 u two → Near 1 u center → Near 1000 u (pos 1000 *ℤ three -ℤ pos 1000 *ℤ two +ℤ pos 707 *ℤ center) → Near 5 u three

@@ -8,7 +8,6 @@ use Rattle.spec_demix.specs.declared.SentBed.{SentBed}
 use Rattle.spec_demix.specs.Kinds.{kind_of, reaches, gives_three, gives_two, gives_four, gives_back}
 use Rattle.spec_demix.specs.OutputGains.{is_set, factor_of, flag_of_left, flag_of_right, flag_of_left_surround, flag_of_right_surround, flag_of_left_top, flag_of_right_top}
 use Rattle.spec_demix.specs.Sent.{sent_if, plain_if, first_top, first_side, first_tops, first_sent, next_side_at, next_top_at, next_back_at, next_center_at, next_stereo_at, next_tops, next_sent, layer_at, kinds_of, place_after, sent_at}
-use Rattle.spec_demix.specs.Sizes.{AreModest}
 
 pub record IsFactoredSide (n : ℕ) (sent : SentSide) : Type 0 where
   pub two : sent.two.factor ≤ n

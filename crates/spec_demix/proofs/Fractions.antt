@@ -1,5 +1,5 @@
 -- The fractions of the exact walk, each over its own bottom.
-use Rattle.std.proofs.Common.{arith, ◌≡◌, ◌<◌, ◌≤◌, ℕ, ℤ, pos, ◌+ℤ◌, ◌-ℤ◌, ◌*ℤ◌, ◌*◌, List, Bool, true, false, slice_index_or, if◌then◌else◌, nat_le, sym, subst}
+use Rattle.std.proofs.Common.{arith, ◌≡◌, ℕ, ℤ, pos, ◌*ℤ◌, ◌*◌, List, Bool, true, false, slice_index_or, if◌then◌else◌, nat_le, sym, subst}
 use Rattle.std.specs.Prelude.{All}
 use Rattle.std.proofs.lemmas.Int.{ints}
 use Rattle.spec_layouts.specs.declared.Channel.{Channel}

@@ -1,6 +1,5 @@
-use Rattle.std.proofs.Common.{arith, ◌≡◌, ◌<◌, ◌≤◌, ℕ, ℤ, pos, ◌+ℤ◌, ◌-ℤ◌, ◌*ℤ◌, ◌*◌, nat_le, true}
+use Rattle.std.proofs.Common.{arith, ℕ, ℤ, pos, ◌*ℤ◌, ◌*◌}
 use Rattle.std.proofs.lemmas.Int.{ints}
-use Rattle.std.proofs.lemmas.Bool.Decides.{nat_tests}
 use Rattle.spec_demix.proofs.FloorLemmas.{passes, factors_swapped}
 use Rattle.spec_demix.proofs.Joins.{IsJoined, IsTopJoined}
 use Rattle.spec_demix.specs.Downmix.{Half, side_down, tops_down}

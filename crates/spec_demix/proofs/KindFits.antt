@@ -1,6 +1,6 @@
 -- What a list that fits says of each kind of channel, by thresholds on the counts of the layers: no statement of it goes by
 -- cases over layouts.
-use Rattle.std.specs.Prelude.{ℕ, zero, suc, ◌*◌, ◌^◌, ◌≡◌, ◌≤◌, ◌<◌, ℤ, pos, ◌*ℤ◌}
+use Rattle.std.specs.Prelude.{ℕ, suc, ◌≡◌, ◌≤◌, ◌<◌, ℤ, pos, ◌*ℤ◌}
 use Rattle.spec_demix.specs.Downmix.{Channels, down}
 use Rattle.spec_demix.specs.declared.Bed.{Bed}
 use Rattle.spec_demix.specs.declared.Kind.{Kind}

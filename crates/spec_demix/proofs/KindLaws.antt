@@ -1,5 +1,5 @@
 -- The laws of lists that fit, by kinds of channels.
-use Rattle.std.specs.Prelude.{ℕ, zero, suc, ◌*◌, ◌^◌, ◌≡◌, ◌≢◌, ◌≤◌, ◌<◌, ℤ, pos, ◌*ℤ◌, ◌-ℤ◌, All, unsigned_abs}
+use Rattle.std.specs.Prelude.{ℕ, ◌*◌, ◌^◌, ◌≡◌, ◌≢◌, ◌≤◌, ◌<◌, ℤ, pos, ◌*ℤ◌, ◌-ℤ◌, All, unsigned_abs}
 use Rattle.spec_layouts.specs.declared.Layout.{Layout}
 use Rattle.spec_layouts.specs.Layouts.{channels}
 use Rattle.spec_demix.proofs.KindFits.{FitsKinds, IsChain}

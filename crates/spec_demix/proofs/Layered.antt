@@ -1,14 +1,12 @@
 -- The laws of demixing for the layers of an element, from those by kinds of channels.
-use Rattle.std.proofs.Common.{arith, ◌≡◌, ◌≢◌, ◌<◌, ◌≤◌, ℕ, zero, suc, ℤ, pos, ◌*ℤ◌, ◌-ℤ◌, ◌+◌, ◌-◌, ◌*◌, ◌^◌, refl, sym, subst, List, length, unsigned_abs, Bool, true, false, slice_index_or, if◌then◌else◌}
+use Rattle.std.proofs.Common.{arith, ◌<◌, ◌≤◌, ℕ, ℤ, pos, ◌*◌, ◌^◌, refl, sym, subst, List, length, unsigned_abs, slice_index_or}
 use Rattle.std.specs.Prelude.{All}
-use Rattle.std.proofs.lemmas.Int.{ints, unsigned_abs-mul}
+use Rattle.std.proofs.lemmas.Int.{unsigned_abs-mul}
 use Rattle.std.proofs.lemmas.List.{get_or_past}
 use Rattle.std.proofs.lemmas.List.Elements.{All-get_or}
 use Rattle.std.proofs.lemmas.Bool.{cases_lt}
 use Rattle.std.proofs.Math.Logic.{⊎_elim}
 use Rattle.std.proofs.Math.Nat.{mul-le-mul}
-use Rattle.spec_layouts.specs.declared.Layout.{Layout}
-use Rattle.spec_layouts.specs.declared.Layout.TheVariants.{Mono, Stereo, L51, L512, L514, L71, L712, L714, L312, Binaural}
 use Rattle.spec_gains.specs.declared.DemixMode.{DemixMode}
 use Rattle.spec_gains.specs.Modes.{Coefficients, coefficients_of, IsMode}
 use Rattle.spec_gains.proofs.ModeLemmas.{Row, of, row_is}
@@ -16,32 +14,20 @@ use Rattle.spec_demix.specs.declared.DemixLayer.{DemixLayer}
 use Rattle.spec_demix.specs.declared.Sent.{Sent}
 use Rattle.spec_demix.specs.declared.SentSide.{SentSide}
 use Rattle.spec_demix.specs.declared.SentTops.{SentTops}
-use Rattle.spec_demix.specs.Kinds.{kind_of}
 use Rattle.spec_demix.specs.Values.{channel_of}
-use Rattle.spec_demix.specs.Sent.{sample_of, side_of, tops_of, bed_of, sent_at, layer_at, kinds_of, sent_by, IsLayers}
+use Rattle.spec_demix.specs.Sent.{sample_of, side_of, tops_of, sent_at, layer_at, kinds_of, sent_by, IsLayers}
 use Rattle.spec_demix.specs.Fits.{FitsOver, IsSame, target_channels}
 use Rattle.spec_demix.specs.FixedWalk.{fixed_value}
 use Rattle.spec_demix.specs.ExactWalk.{exact, exact_channels, bottom_of}
 use Rattle.spec_demix.specs.Sizes.{AreSamples, AreModest, IsNear, IsSmall}
 use Rattle.spec_demix.specs.Laws.{SomeListFits, OnlyOneFits, FixedIsNear, FittingIsSmall, FixedIsSmall}
-use Rattle.spec_demix.proofs.KindFits.{IsKind, IsChain}
-use Rattle.spec_demix.proofs.KindLaws.{IsPlain, IsSmallSide, IsSmallTops, IsSmallBed}
+use Rattle.spec_demix.proofs.KindFits.{IsChain}
+use Rattle.spec_demix.proofs.KindLaws.{IsSmallSide, IsSmallTops, IsSmallBed}
 use Rattle.spec_demix.proofs.Channels.{some_fits, only_one_fits, fixed_is_near}
 use Rattle.spec_demix.proofs.Sized.{fitting_is_small, fixed_is_small}
 use Rattle.spec_demix.proofs.Factors.{IsFactoredSide, IsFactoredTops, sent_factored}
 use Rattle.spec_demix.proofs.Carried.{fits_kinds, fits_lists}
-
-kind_is : (layout : Layout) → IsKind (kind_of layout)
-kind_is Mono = record { high = omega arith; even = (λ h. omega arith, λ h. omega arith); low = λ h. omega arith; three = λ a b. omega arith }
-kind_is Stereo = record { high = omega arith; even = (λ h. omega arith, λ h. omega arith); low = λ h. omega arith; three = λ a b. omega arith }
-kind_is L51 = record { high = omega arith; even = (λ h. omega arith, λ h. omega arith); low = λ h. omega arith; three = λ a b. omega arith }
-kind_is L512 = record { high = omega arith; even = (λ h. omega arith, λ h. omega arith); low = λ h. omega arith; three = λ a b. omega arith }
-kind_is L514 = record { high = omega arith; even = (λ h. omega arith, λ h. omega arith); low = λ h. omega arith; three = λ a b. omega arith }
-kind_is L71 = record { high = omega arith; even = (λ h. omega arith, λ h. omega arith); low = λ h. omega arith; three = λ a b. omega arith }
-kind_is L712 = record { high = omega arith; even = (λ h. omega arith, λ h. omega arith); low = λ h. omega arith; three = λ a b. omega arith }
-kind_is L714 = record { high = omega arith; even = (λ h. omega arith, λ h. omega arith); low = λ h. omega arith; three = λ a b. omega arith }
-kind_is L312 = record { high = omega arith; even = (λ h. omega arith, λ h. omega arith); low = λ h. omega arith; three = λ a b. omega arith }
-kind_is Binaural = record { high = omega arith; even = (λ h. omega arith, λ h. omega arith); low = λ h. omega arith; three = λ a b. omega arith }
+use Rattle.spec_demix.proofs.NextCarried.{kind_is}
 
 -- the counts of the layers
 pub chain_of : (layers : List DemixLayer) (target : ℕ) → IsLayers layers target → IsChain (kinds_of layers) target

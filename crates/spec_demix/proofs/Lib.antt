@@ -12,6 +12,9 @@ pub mod ExactLemmas
 pub mod ExactFits
 pub mod Channels
 pub mod Sized
+pub mod CarriedRows
+pub mod FirstCarried
+pub mod NextCarried
 pub mod Carried
 pub mod Layered
 pub mod Fractions

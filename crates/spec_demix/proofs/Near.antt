@@ -1,5 +1,5 @@
 -- How far numbers may be from 0: after a layer, and over a step from one layer to the next.
-use Rattle.std.specs.Prelude.{ℕ, ◌*◌, ◌^◌, ◌≡◌, ◌≤◌, ◌<◌, ℤ, pos, ◌+ℤ◌, ◌-ℤ◌, ◌*ℤ◌, unsigned_abs}
+use Rattle.std.specs.Prelude.{ℕ, ◌*◌, ◌≡◌, ◌≤◌, ◌<◌, ℤ, pos, ◌+ℤ◌, ◌-ℤ◌, ◌*ℤ◌, unsigned_abs}
 use Rattle.spec_demix.specs.declared.Bed.{Bed}
 use Rattle.spec_demix.specs.declared.Kind.{Kind}
 use Rattle.spec_demix.specs.declared.Side.{Side}

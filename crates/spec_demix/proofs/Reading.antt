@@ -1,5 +1,5 @@
 -- Each layer's coded samples are read in coded order.
-use Rattle.std.proofs.Common.{arith, ◌≡◌, ◌≢◌, ◌≤◌, ℕ, ℤ, pos, ◌*ℤ◌, ◌+◌, refl, List, length}
+use Rattle.std.proofs.Common.{arith, ◌≢◌, ◌≤◌, ℕ, ℤ, ◌+◌, refl, List, length}
 use Rattle.std.specs.Prelude.{Some, None}
 use Rattle.spec_layouts.specs.declared.Layout.{Layout}
 use Rattle.spec_layouts.specs.declared.Layout.TheVariants.{Mono, Stereo, L51, L512, L514, L71, L712, L714, L312, Binaural}
@@ -9,7 +9,7 @@ use Rattle.spec_demix.specs.Kinds.{kind_of}
 use Rattle.spec_demix.specs.Values.{value_of, single_of}
 use Rattle.spec_demix.specs.Sent.{bed_of, first_sent, next_sent}
 use Rattle.spec_demix.specs.Laws.{AreRead, FirstIsRead, NextIsRead}
-use Rattle.spec_demix.proofs.Carried.{layer_with}
+use Rattle.spec_demix.proofs.FirstCarried.{layer_with}
 
 first_read : (layout : Layout) (flags factor : ℕ) (coded : List ℤ) → layout ≢ Binaural
     → AreRead (value_of (kind_of layout) (bed_of coded (first_sent (layer_with layout flags factor)))) (layer_with layout flags factor) coded 0 (transmitted None layout)

@@ -1,4 +1,4 @@
-use Rattle.std.proofs.Common.{arith, ◌≡◌, ◌<◌, ◌≤◌, ℕ, ℤ, pos, ◌+ℤ◌, ◌-ℤ◌, ◌*ℤ◌, ◌*◌, ap, refl, true, false, unsigned_abs}
+use Rattle.std.proofs.Common.{arith, ◌≡◌, ◌<◌, ◌≤◌, ℕ, ℤ, pos, ◌+ℤ◌, ◌-ℤ◌, ◌*ℤ◌, ◌*◌, ap, refl, false}
 use Rattle.std.proofs.lemmas.Int.{ints}
 use Rattle.std.proofs.Math.Nat.{mul-le-mul_right}
 use Rattle.spec_demix.proofs.FloorLemmas.{floor_near, reached, not_reached, distribute_minus, swapped_left, spread, three_given, three_not_given, two_given, two_not_given, three_left, three_not_left, none_left, four_given, four_not_given, back_given, back_not_given, two_split, not_split_low, not_split_high}
@@ -15,6 +15,21 @@ use Rattle.spec_gains.proofs.ModeLemmas.{Row, alpha_of, beta_of, gamma_of, delta
 use Rattle.std.proofs.lemmas.Bool.{cases_lt}
 use Rattle.std.proofs.Math.Logic.{⊎_elim}
 
+some_beta : (mode : Row) → 0 < beta_of mode
+some_beta Zero = omega arith
+some_beta One = omega arith
+some_beta Two = omega arith
+
+some_gamma : (mode : Row) → 0 < gamma_of mode
+some_gamma Zero = omega arith
+some_gamma One = omega arith
+some_gamma Two = omega arith
+
+some_delta : (mode : Row) → 0 < delta_of mode
+some_delta Zero = omega arith
+some_delta One = omega arith
+some_delta Two = omega arith
+
 -- the kind 3, over a bottom b, against the exact values w
 three_step : (b : ℕ) (two center w2 w3 wc : ℤ) → pos 1000 *ℤ w2 ≡ pos 1000 *ℤ w3 +ℤ pos 707 *ℤ wc
     → Near 1000 b (pos 1000 *ℤ ((two -ℤ floor_of (pos 707 *ℤ center) 1000) *ℤ pos b -ℤ w3) -ℤ pos 1000 *ℤ (two *ℤ pos b -ℤ w2) +ℤ pos 707 *ℤ (center *ℤ pos b -ℤ wc))
@@ -24,43 +39,27 @@ three_step b two center w2 w3 wc joined =
     let c = swapped_left center 707 b in
     omega (arith, ints)
 
-surround_step : (mode : Row) (b : ℕ) (three sent w3 w5 ws : ℤ) → pos 1000 *ℤ w3 ≡ pos 1000 *ℤ w5 +ℤ pos (delta_of mode) *ℤ ws
-    → Near (delta_of mode) b (pos (delta_of mode) *ℤ (floor_of (pos 1000 *ℤ (three -ℤ sent)) (delta_of mode) *ℤ pos b -ℤ ws) -ℤ pos 1000 *ℤ (three *ℤ pos b -ℤ w3) +ℤ pos 1000 *ℤ (sent *ℤ pos b -ℤ w5))
-surround_step Zero b three sent w3 w5 ws joined =
-    let n = floor_near (pos 1000 *ℤ (three -ℤ sent)) 707 b (omega arith) in
-    let d = distribute_minus three sent (pos b) in
-    let c = swapped_left (three -ℤ sent) 1000 b in
-    omega (arith, ints)
-surround_step One b three sent w3 w5 ws joined =
-    let n = floor_near (pos 1000 *ℤ (three -ℤ sent)) 707 b (omega arith) in
-    let d = distribute_minus three sent (pos b) in
-    let c = swapped_left (three -ℤ sent) 1000 b in
-    omega (arith, ints)
-surround_step Two b three sent w3 w5 ws joined =
-    let n = floor_near (pos 1000 *ℤ (three -ℤ sent)) 866 b (omega arith) in
-    let d = distribute_minus three sent (pos b) in
-    let c = swapped_left (three -ℤ sent) 1000 b in
+-- a channel that is the difference of two others over a factor of the mode, rounded down
+quotient_step : (k b : ℕ) → 0 < k → (sum sent w1 w2 w3 : ℤ) → pos 1000 *ℤ w1 ≡ pos 1000 *ℤ w2 +ℤ pos k *ℤ w3
+    → Near k b (pos k *ℤ (floor_of (pos 1000 *ℤ (sum -ℤ sent)) k *ℤ pos b -ℤ w3) -ℤ pos 1000 *ℤ (sum *ℤ pos b -ℤ w1) +ℤ pos 1000 *ℤ (sent *ℤ pos b -ℤ w2))
+quotient_step k b some sum sent w1 w2 w3 joined =
+    let q = floor_of (pos 1000 *ℤ (sum -ℤ sent)) k in
+    let n = floor_near (pos 1000 *ℤ (sum -ℤ sent)) k b some in
+    let d = distribute_minus sum sent (pos b) in
+    let c = swapped_left (sum -ℤ sent) 1000 b in
+    let e = spread k (q *ℤ pos b) w3 in
     omega (arith, ints)
 
-rear_step : (mode : Row) (b : ℕ) (surround sent w5 w7 wr : ℤ) → pos 1000 *ℤ w5 ≡ pos (alpha_of mode) *ℤ w7 +ℤ pos (beta_of mode) *ℤ wr
-    → Near (beta_of mode) b (pos (beta_of mode) *ℤ (floor_of (pos 1000 *ℤ surround -ℤ pos (alpha_of mode) *ℤ sent) (beta_of mode) *ℤ pos b -ℤ wr) -ℤ pos 1000 *ℤ (surround *ℤ pos b -ℤ w5) +ℤ pos (alpha_of mode) *ℤ (sent *ℤ pos b -ℤ w7))
-rear_step Zero b surround sent w5 w7 wr joined =
-    let n = floor_near (pos 1000 *ℤ surround -ℤ pos 1000 *ℤ sent) 1000 b (omega arith) in
-    let d = distribute_minus (pos 1000 *ℤ surround) (pos 1000 *ℤ sent) (pos b) in
+rear_step : (k m b : ℕ) → 0 < m → (surround sent w5 w7 wr : ℤ) → pos 1000 *ℤ w5 ≡ pos k *ℤ w7 +ℤ pos m *ℤ wr
+    → Near m b (pos m *ℤ (floor_of (pos 1000 *ℤ surround -ℤ pos k *ℤ sent) m *ℤ pos b -ℤ wr) -ℤ pos 1000 *ℤ (surround *ℤ pos b -ℤ w5) +ℤ pos k *ℤ (sent *ℤ pos b -ℤ w7))
+rear_step k m b some surround sent w5 w7 wr joined =
+    let q = floor_of (pos 1000 *ℤ surround -ℤ pos k *ℤ sent) m in
+    let n = floor_near (pos 1000 *ℤ surround -ℤ pos k *ℤ sent) m b some in
+    let d = distribute_minus (pos 1000 *ℤ surround) (pos k *ℤ sent) (pos b) in
     let c = swapped_left surround 1000 b in
-    let e = swapped_left sent 1000 b in
-    omega (arith, ints)
-rear_step One b surround sent w5 w7 wr joined =
-    let n = floor_near (pos 1000 *ℤ surround -ℤ pos 707 *ℤ sent) 707 b (omega arith) in
-    let d = distribute_minus (pos 1000 *ℤ surround) (pos 707 *ℤ sent) (pos b) in
-    let c = swapped_left surround 1000 b in
-    let e = swapped_left sent 707 b in
-    omega (arith, ints)
-rear_step Two b surround sent w5 w7 wr joined =
-    let n = floor_near (pos 1000 *ℤ surround -ℤ pos 1000 *ℤ sent) 866 b (omega arith) in
-    let d = distribute_minus (pos 1000 *ℤ surround) (pos 1000 *ℤ sent) (pos b) in
-    let c = swapped_left surround 1000 b in
-    let e = swapped_left sent 1000 b in
+    let e = swapped_left sent k b in
+    let f = spread m (q *ℤ pos b) wr in
+    let g = spread k (sent *ℤ pos b) w7 in
     omega (arith, ints)
 
 -- how far a side over the bottom b is from the exact values w
@@ -93,11 +92,11 @@ side_after_step before now mode b two center cw old sent w j s kept fresh = reco
   five_kept = λ h. rw (not_reached 5 before now h) refl;
   five = λ l n. rw (reached 5 before now l n) (s.five l n);
   surround_kept = λ h. rw (not_reached 5 before now h) refl;
-  surround = λ l n. rw (reached 5 before now l n) (surround_step mode b (three_of before now old.three two center) sent.five w.three w.five w.surround (j.three n));
+  surround = λ l n. rw (reached 5 before now l n) (quotient_step (delta_of mode) b (some_delta mode) (three_of before now old.three two center) sent.five w.three w.five w.surround (j.three n));
   side_kept = λ h. rw (not_reached 7 before now h) refl;
   side = λ l n. rw (reached 7 before now l n) (s.side l n);
   rear_kept = λ h. rw (not_reached 7 before now h) refl;
-  rear = λ l n. rw (reached 7 before now l n) (rear_step mode b (surround_of before now (of mode) old.surround (three_of before now old.three two center) sent.five) sent.side w.surround w.side w.rear (j.surround n));
+  rear = λ l n. rw (reached 7 before now l n) (rear_step (alpha_of mode) (beta_of mode) b (some_beta mode) (surround_of before now (of mode) old.surround (three_of before now old.three two center) sent.five) sent.side w.surround w.side w.rear (j.surround n));
 }
 
 -- the walk's step from the kind 3, over a bottom b
@@ -109,24 +108,6 @@ left_step mode w b three ls w3 w2 ws joined =
     let d = distribute_minus three (floor_of (pos k *ℤ ls) 10000000) (pos b) in
     let c = swapped_left ls k b in
     let e = spread k (ls *ℤ pos b) ws in
-    omega (arith, ints)
-
-split_step : (mode : Row) (b : ℕ) (two sent w2 w4 wb : ℤ) → pos 1000 *ℤ w2 ≡ pos 1000 *ℤ w4 +ℤ pos (gamma_of mode) *ℤ wb
-    → Near (gamma_of mode) b (pos (gamma_of mode) *ℤ (floor_of (pos 1000 *ℤ (two -ℤ sent)) (gamma_of mode) *ℤ pos b -ℤ wb) -ℤ pos 1000 *ℤ (two *ℤ pos b -ℤ w2) +ℤ pos 1000 *ℤ (sent *ℤ pos b -ℤ w4))
-split_step Zero b two sent w2 w4 wb joined =
-    let n = floor_near (pos 1000 *ℤ (two -ℤ sent)) 707 b (omega arith) in
-    let d = distribute_minus two sent (pos b) in
-    let c = swapped_left (two -ℤ sent) 1000 b in
-    omega (arith, ints)
-split_step One b two sent w2 w4 wb joined =
-    let n = floor_near (pos 1000 *ℤ (two -ℤ sent)) 707 b (omega arith) in
-    let d = distribute_minus two sent (pos b) in
-    let c = swapped_left (two -ℤ sent) 1000 b in
-    omega (arith, ints)
-split_step Two b two sent w2 w4 wb joined =
-    let n = floor_near (pos 1000 *ℤ (two -ℤ sent)) 866 b (omega arith) in
-    let d = distribute_minus two sent (pos b) in
-    let c = swapped_left (two -ℤ sent) 1000 b in
     omega (arith, ints)
 
 abbrev pub top_errors : ℕ → Tops → Tops → Tops
@@ -162,5 +143,5 @@ tops_after_step before now mode w b surround ws old sent t k j s = record {
   back_kept = λ h. rw (not_split_high before now h) (rw (back_not_given before now (omega arith)) refl);
   back = λ l n. rw (not_split_low before now l) (rw (back_given before now l n) (near_more 1 13 b (sent.back *ℤ pos b -ℤ t.back) (omega arith) (s.back l n)));
   back_split = λ l m n. rw (two_split before now l m n) (rw (four_given before now m n)
-      (split_step mode b (top_two_of before now (of mode) w surround old.three old.two sent.two) sent.four t.two t.four t.back (j.two n)));
+      (quotient_step (gamma_of mode) b (some_gamma mode) (top_two_of before now (of mode) w surround old.three old.two sent.two) sent.four t.two t.four t.back (j.two n)));
 }

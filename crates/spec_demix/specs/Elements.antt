@@ -1,5 +1,5 @@
 -- The layers of a scalable element as demixing sees them: IAMF 1.0.0, "Scalable Channel Layout Config Syntax and Semantics".
-use Rattle.std.specs.Prelude.{ℕ, List, map, Option, Some, None}
+use Rattle.std.specs.Prelude.{List, map, Option, Some, None}
 use Rattle.spec_layouts.specs.declared.Layout.{Layout}
 use Rattle.spec_gains.specs.Gains.{gain_of}
 use Rattle.spec_descriptors.specs.Layers.{OutputGainFields, LayerFields}

@@ -1,5 +1,5 @@
 -- The walk of the fixed point without its roundings: it gives the list of channels that fits, as fractions.
-use Rattle.std.specs.Prelude.{ℕ, zero, suc, ◌*◌, ℤ, pos, ◌+ℤ◌, ◌-ℤ◌, ◌*ℤ◌, if◌then◌else◌, nat_le, List}
+use Rattle.std.specs.Prelude.{ℕ, zero, suc, ◌*◌, ℤ, pos, ◌-ℤ◌, ◌*ℤ◌, if◌then◌else◌, nat_le, List}
 use Rattle.spec_gains.specs.Modes.{Coefficients}
 use Rattle.spec_layouts.specs.declared.Channel.{Channel}
 use Rattle.spec_layouts.specs.declared.Channel.TheVariants.{M, L, R, C, Lfe, Ls, Rs, Lss, Rss, Lrs, Rrs, Ltf, Rtf, Ltb, Rtb}

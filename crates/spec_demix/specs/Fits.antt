@@ -1,14 +1,13 @@
 -- Which channels of a target layer are right for the coded samples: those whose downmix to each layer is what that layer
 -- transmits. Nothing is demixed here.
-use Rattle.std.specs.Prelude.{ℕ, suc, ◌+◌, ◌*◌, ◌≡◌, ◌<◌, List, [], ◌∷◌, ◌++◌, ℤ, pos, ◌*ℤ◌, slice_index_or, length, Option, Some, None}
+use Rattle.std.specs.Prelude.{ℕ, suc, ◌+◌, ◌≡◌, ◌<◌, List, [], ◌∷◌, ℤ, pos, ◌*ℤ◌, slice_index_or, length, Some, None}
 use Rattle.std.specs.List.{AllZip}
 use Rattle.spec_layouts.specs.declared.Layout.{Layout}
 use Rattle.spec_layouts.specs.declared.Channel.{Channel}
-use Rattle.spec_layouts.specs.declared.Channel.TheVariants.{M, L, R, C, Lfe, Ls, Rs, Lss, Rss, Lrs, Rrs, Ltf, Rtf, Ltb, Rtb}
+use Rattle.spec_layouts.specs.declared.Channel.TheVariants.{M}
 use Rattle.spec_layouts.specs.Layouts.{channels}
 use Rattle.spec_layouts.specs.Transmitted.{transmitted, pairs_of, singles_of, both_of}
 use Rattle.spec_gains.specs.Modes.{Coefficients}
-use Rattle.spec_demix.specs.declared.Kind.{Kind}
 use Rattle.spec_demix.specs.declared.Bed.{Bed}
 use Rattle.spec_demix.specs.declared.DemixLayer.{DemixLayer}
 use Rattle.spec_demix.specs.declared.Fraction.{Fraction}

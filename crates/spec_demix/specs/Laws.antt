@@ -16,7 +16,7 @@ use Rattle.spec_demix.specs.OutputGains.{factor_on}
 use Rattle.spec_demix.specs.Fits.{FitsOver, IsSame, target_channels}
 use Rattle.spec_demix.specs.Sent.{bed_of, first_sent, next_sent, kinds_of, sent_by, IsLayers}
 use Rattle.spec_demix.specs.FixedWalk.{fixed_value}
-use Rattle.spec_demix.specs.ExactWalk.{Quotient, exact, exact_channels, exact_fraction, bottom_of}
+use Rattle.spec_demix.specs.ExactWalk.{exact, exact_channels, exact_fraction, bottom_of}
 use Rattle.spec_demix.specs.Sizes.{AreSamples, AreModest, IsNear, IsSmall}
 
 -- what the exact walk gives, over one bottom

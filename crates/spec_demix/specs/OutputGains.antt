@@ -1,12 +1,12 @@
 -- On which channels a layer's output gain acts: IAMF 1.0.0, "Scalable Channel Layout Config Syntax and Semantics",
 -- output_gain_flags. A flag acts on its channel where the layer transmits that channel and has one of the flag's layouts;
 -- elsewhere it does nothing.
-use Rattle.std.specs.Prelude.{ℕ, ◌*◌, ◌^◌, ◌/◌, ◌%◌, ◌==◌, Bool, true, false, nat_le, if◌then◌else◌, Option, Some, None}
+use Rattle.std.specs.Prelude.{ℕ, ◌^◌, ◌/◌, ◌%◌, ◌==◌, Bool, true, false, if◌then◌else◌, Option, Some, None}
 use Rattle.std.specs.Option.{option_map_or}
 use Rattle.spec_layouts.specs.declared.Layout.{Layout}
-use Rattle.spec_layouts.specs.declared.Layout.TheVariants.{Mono, Stereo, L51, L512, L514, L71, L712, L714, L312, Binaural}
+use Rattle.spec_layouts.specs.declared.Layout.TheVariants.{Stereo, L51, L512, L514, L712, L714, L312}
 use Rattle.spec_layouts.specs.declared.Channel.{Channel}
-use Rattle.spec_layouts.specs.declared.Channel.TheVariants.{M, L, R, C, Lfe, Ls, Rs, Lss, Rss, Lrs, Rrs, Ltf, Rtf, Ltb, Rtb}
+use Rattle.spec_layouts.specs.declared.Channel.TheVariants.{M, L, R, Ls, Rs, Ltf, Rtf}
 use Rattle.spec_demix.specs.declared.DemixLayer.{DemixLayer}
 
 -- the six flags by their places, from the least significant

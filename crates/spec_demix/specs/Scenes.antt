@@ -1,5 +1,5 @@
 -- The outputs of an ambisonics element: IAMF 1.0.0, "Ambisonics Config Syntax and Semantics".
-use Rattle.std.specs.Prelude.{ℕ, zero, suc, ◌+◌, ◌-◌, ◌*◌, ◌<◌, ◌≤◌, ◌≡◌, ◌⊎◌, ◌==◌, nat_lt, List, length, All, ℤ, pos, ◌+ℤ◌, ◌-ℤ◌, ◌*ℤ◌, slice_index, slice_index_or, if◌then◌else◌}
+use Rattle.std.specs.Prelude.{ℕ, zero, suc, ◌+◌, ◌*◌, ◌<◌, ◌≤◌, ◌≡◌, ◌⊎◌, ◌==◌, nat_lt, List, length, All, ℤ, pos, ◌+ℤ◌, ◌-ℤ◌, ◌*ℤ◌, slice_index, slice_index_or, if◌then◌else◌}
 use Rattle.spec_descriptors.specs.Ambisonics.{AmbisonicsFields, Mono, Projection}
 use Rattle.spec_demix.specs.declared.Fraction.{Fraction}
 

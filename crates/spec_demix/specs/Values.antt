@@ -1,9 +1,9 @@
 -- Where a channel stands.
-use Rattle.std.specs.Prelude.{ℕ, ℤ, pos, if◌then◌else◌, nat_le}
+use Rattle.std.specs.Prelude.{ℤ, pos, if◌then◌else◌, nat_le}
 use Rattle.spec_layouts.specs.declared.Channel.{Channel}
 use Rattle.spec_layouts.specs.declared.Channel.TheVariants.{M, L, R, C, Lfe, Ls, Rs, Lss, Rss, Lrs, Rrs, Ltf, Rtf, Ltb, Rtb}
 use Rattle.spec_demix.specs.declared.Kind.{Kind}
-use Rattle.spec_demix.specs.Downmix.{Half, Channels}
+use Rattle.spec_demix.specs.Downmix.{Channels}
 use Rattle.spec_demix.specs.declared.Side.{Side}
 use Rattle.spec_demix.specs.declared.Tops.{Tops}
 use Rattle.spec_demix.specs.declared.Bed.{Bed}

@@ -1,5 +1,5 @@
-use Rattle.std.proofs.Common.{rules, arith, ◌≡◌, ◌<◌, ◌+◌, ℕ, suc, length, below_more}
-use Rattle.std.specs.Prelude.{IsSome, IsTrue}
+use Rattle.std.proofs.Common.{rules, arith, ◌≡◌, ◌+◌, suc, below_more}
+use Rattle.std.specs.Prelude.{IsSome}
 use Rattle.spec_layouts.specs.Steps.{IsStep}
 use Rattle.spec_demix.specs.Sent.{layer_at}
 use Rattle.demix_channels.proofs.SeenLayers.{seen, layout_at}

@@ -1,6 +1,6 @@
 use Rattle.std.proofs.Common.{arith, refl, ◌∙◌, sym}
 use Rattle.spec_bits.specs.Bits.{number_of, all_bits}
-use Rattle.flac_bits.proofs.LastBytes.{number_more, number_below}
+use Rattle.spec_bits.proofs.ByteNumbers.{number_more, number_below}
 use Rattle.flac_bits.proofs.window.number.Goals as goal
 
 pub loop-byte-init : goal.loop-byte-init

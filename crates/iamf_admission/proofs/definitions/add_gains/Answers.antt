@@ -1,6 +1,6 @@
 use Rattle.std.proofs.Common.{◌∷◌, []}
 use Rattle.spec_sequence.specs.ValueRole.{gain_definition}
-use Rattle.obu_mix.specs.MixGainView.{view_mix_gain}
+use Rattle.obu_mix_elements.specs.MixGainView.{view_mix_gain}
 use Rattle.iamf_admission.proofs.Defining.{adds_none, adds_more}
 use Rattle.iamf_admission.proofs.definitions.add_gains.Goals as goal
 

@@ -1,7 +1,7 @@
 use Rattle.std.proofs.Common.{take, ◌∷◌, []}
 use Rattle.std.specs.List.{flat_map}
 use Rattle.spec_sequence.specs.ValueRole.{gain_definition}
-use Rattle.obu_mix.specs.MixGainView.{view_mix_gain}
+use Rattle.obu_mix_elements.specs.MixGainView.{view_mix_gain}
 use Rattle.iamf_admission.specs.Defining.{Defines}
 use Rattle.iamf_admission.proofs.definitions.add_gains.Given as goal
 

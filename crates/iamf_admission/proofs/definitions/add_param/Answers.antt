@@ -1,5 +1,5 @@
 use Rattle.std.proofs.Common.{map}
-use Rattle.obu_descriptors.specs.LayerView.{view_layer}
+use Rattle.obu_element_config.specs.LayerView.{view_layer}
 use Rattle.iamf_admission.proofs.Defining.{adds_none}
 use Rattle.iamf_admission.proofs.definitions.add_param.Goals as goal
 

@@ -1,6 +1,6 @@
 use Rattle.std.proofs.Common.{map, subst, sym}
 use Rattle.spec_sequence.specs.ValueRole.{element_definition}
-use Rattle.obu_descriptors.specs.LayerView.{view_layer}
+use Rattle.obu_element_config.specs.LayerView.{view_layer}
 use Rattle.obu_descriptors.specs.ParameterView.{view_param}
 use Rattle.obu_descriptors.specs.declared.parameter.Param.{Param}
 use Rattle.iamf_admission.specs.Defining.{CanDefine}

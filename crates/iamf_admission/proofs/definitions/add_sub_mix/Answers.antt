@@ -2,8 +2,8 @@ use Rattle.std.proofs.Common.{List, ◌∷◌, [], ◌++◌, subst}
 use Rattle.std.specs.List.{flat_map}
 use Rattle.spec_blocks.specs.Shape.{Definition}
 use Rattle.spec_sequence.specs.ValueRole.{gain_definition}
-use Rattle.obu_mix.specs.MixGainView.{view_mix_gain}
-use Rattle.obu_mix.specs.MixElementView.{view_mix_element}
+use Rattle.obu_mix_elements.specs.MixGainView.{view_mix_gain}
+use Rattle.obu_mix_elements.specs.MixElementView.{view_mix_element}
 use Rattle.iamf_admission.specs.Defining.{Defines}
 use Rattle.iamf_admission.proofs.Defining.{map-single, adds_both}
 use Rattle.iamf_admission.proofs.definitions.add_sub_mix.Goals as goal

@@ -3,7 +3,7 @@ use Rattle.std.proofs.lemmas.List.Folds.{flat_map-map}
 use Rattle.spec_blocks.specs.Shape.{Definition}
 use Rattle.spec_sequence.specs.ValueRole.{layers_of, element_definition}
 use Rattle.obu_descriptors.specs.ParameterView.{view_param}
-use Rattle.obu_descriptors.specs.ConfigView.{view_config}
+use Rattle.obu_element_config.specs.ConfigView.{view_config}
 use Rattle.iamf_admission.specs.Defining.{Defines}
 use Rattle.iamf_admission.proofs.Definable.{definable}
 use Rattle.iamf_admission.proofs.definitions.element_definitions.Goals as goal

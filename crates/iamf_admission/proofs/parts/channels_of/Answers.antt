@@ -1,6 +1,6 @@
 use Rattle.std.proofs.Common.{◌∷◌, [], ◌++◌, List, ℕ, length, sym, ap, not, ◌∙◌, arith}
 use Rattle.spec_descriptors.specs.AudioElement.{substream_channels_of}
-use Rattle.obu_descriptors.specs.ConfigView.{view_config}
+use Rattle.obu_element_config.specs.ConfigView.{view_config}
 use Rattle.obu_descriptors.specs.ElementView.{view_element}
 use Rattle.iamf_admission.proofs.Channels.{one_more, no_more, all_known, none_known, some_known}
 use Rattle.iamf_admission.proofs.parts.channels_of.Goals.{in-Some+in_ok-push, in_default}

@@ -1,6 +1,6 @@
 use Rattle.std.proofs.Common.{◌≡◌, take, length}
 use Rattle.spec_descriptors.specs.AudioElement.{substream_channels_of}
-use Rattle.obu_descriptors.specs.ConfigView.{view_config}
+use Rattle.obu_element_config.specs.ConfigView.{view_config}
 use Rattle.iamf_admission.proofs.Channels.{known_channels}
 use Rattle.iamf_admission.proofs.parts.channels_of.Given as goal
 

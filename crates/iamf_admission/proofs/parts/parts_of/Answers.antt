@@ -7,4 +7,4 @@ use Rattle.iamf_admission.proofs.parts.parts_of.Goals as goal
 
 pub element_parts-requires : goal.element_parts-requires
 element_parts-requires c =
-    subst (λ (n : ℕ). IsValid (audio_element n) audio_element_fields (view_element c.in-AudioElement.element)) c.requires.2 (rw c.in-AudioElement.is at c.requires.3)
+    rw c.deref.ensures (subst (λ (n : ℕ). IsValid (audio_element n) audio_element_fields (view_element c.in-AudioElement.element.value)) c.requires.2 (rw c.in-AudioElement.is at c.requires.3))

@@ -1,6 +1,6 @@
 use Rattle.std.proofs.Common.{sym, refl, arith}
 use Rattle.spec_bits.specs.Bits.{number_of, all_bits}
-use Rattle.iamf_bits.proofs.Numbers.{number_more, number_below}
+use Rattle.spec_bits.proofs.ByteNumbers.{number_more, number_below}
 use Rattle.iamf_bits.proofs.front.number.Goals as goal
 
 pub loop-byte-init : goal.loop-byte-init

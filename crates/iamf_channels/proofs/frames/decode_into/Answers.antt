@@ -1,6 +1,6 @@
 use Rattle.std.proofs.Common.{◌≤◌, ◌^◌, ℤ, unsigned_abs, sym, subst}
-use Rattle.obu_descriptors.specs.declared.codec_config.Coding.{Coding}
-use Rattle.obu_descriptors.specs.declared.codec_config.Coding.TheVariants as coding
+use Rattle.obu_codec_config.specs.declared.codec_config.Coding.{Coding}
+use Rattle.obu_codec_config.specs.declared.codec_config.Coding.TheVariants as coding
 use Rattle.iamf_channels.specs.Decoded.{IsFrameBy}
 use Rattle.iamf_channels.proofs.SampleSizes.{sample_small}
 use Rattle.iamf_channels.proofs.frames.decode_into.Goals as goal

@@ -1,5 +1,5 @@
 use Rattle.std.proofs.Common.{◌∙◌, sym, ap, not}
-use Rattle.obu_descriptors.specs.LayerView.{view_layer}
+use Rattle.obu_element_config.specs.LayerView.{view_layer}
 use Rattle.spec_play.specs.UsedLayers.{is_of}
 use Rattle.iamf_elements.proofs.Walks.{list_any-map}
 use Rattle.iamf_elements.proofs.elements.is_missing.Goals as goal

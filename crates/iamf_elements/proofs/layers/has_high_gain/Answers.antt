@@ -1,5 +1,5 @@
 use Rattle.std.proofs.Common.{◌∙◌, sym}
-use Rattle.obu_descriptors.specs.LayerView.{view_layer}
+use Rattle.obu_element_config.specs.LayerView.{view_layer}
 use Rattle.spec_play.specs.Selection.{is_output_gain_above}
 use Rattle.spec_descriptors.specs.Layers.{LayerFields}
 use Rattle.iamf_elements.proofs.Walks.{list_any-map}

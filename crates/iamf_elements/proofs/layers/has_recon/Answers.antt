@@ -2,8 +2,8 @@ use Rattle.std.proofs.Common.{arith, ◌≡◌, ◌-◌, length, sym, ap, ◌∙
 use Rattle.std.specs.List.{list_any}
 use Rattle.std.proofs.lemmas.List.{drop-map, take_all}
 use Rattle.spec_descriptors.specs.Layers.{LayerFields}
-use Rattle.obu_descriptors.specs.declared.layer.Layer.{Layer}
-use Rattle.obu_descriptors.specs.LayerView.{view_layer}
+use Rattle.obu_element_config.specs.declared.layer.Layer.{Layer}
+use Rattle.obu_element_config.specs.LayerView.{view_layer}
 use Rattle.iamf_elements.proofs.Walks.{list_any-map}
 use Rattle.iamf_elements.proofs.layers.has_recon.Goals as goal
 

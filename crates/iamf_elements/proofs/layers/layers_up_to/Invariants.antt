@@ -1,5 +1,5 @@
 use Rattle.std.proofs.Common.{◌≡◌, ◌<◌, ℕ, false, get_or}
-use Rattle.obu_descriptors.specs.LayerView.{view_layer}
+use Rattle.obu_element_config.specs.LayerView.{view_layer}
 use Rattle.spec_play.specs.UsedLayers.{is_of}
 use Rattle.demix_channels.proofs.SeenLayers.{no_layer}
 use Rattle.iamf_elements.proofs.layers.layers_up_to.Given as goal

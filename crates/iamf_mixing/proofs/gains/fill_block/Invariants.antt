@@ -1,6 +1,6 @@
 use Rattle.std.proofs.Common.{◌≡◌, ℕ, ◌+◌, ◌-◌, ◌<◌, ◌≤◌, length, map, get_or}
 use Rattle.std.specs.List.{zip}
-use Rattle.obu_descriptors.specs.TimingView.{view_fixed}
+use Rattle.obu_timing.specs.TimingView.{view_fixed}
 use Rattle.obu_data.specs.BlockView.{view_gain_part}
 use Rattle.spec_play.specs.GainsOverTime.{subblock_gain, subblock_durations}
 use Rattle.iamf_mixing.proofs.Subblocks.{EndsAt}

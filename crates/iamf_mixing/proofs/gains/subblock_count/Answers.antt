@@ -1,6 +1,6 @@
 use Rattle.std.proofs.Common.{arith, ◌∙◌, sym}
 use Rattle.obu_data.proofs.Counts.{subblocks_rounded}
-use Rattle.obu_descriptors.specs.TimingView.{view_fixed}
+use Rattle.obu_timing.specs.TimingView.{view_fixed}
 use Rattle.iamf_mixing.proofs.Subblocks.{count_alike}
 use Rattle.iamf_mixing.proofs.gains.subblock_count.Goals as goal
 

@@ -1,5 +1,5 @@
 use Rattle.std.proofs.Common.{arith, rules, ◌<◌, ◌∙◌, sym}
-use Rattle.obu_descriptors.specs.TimingView.{view_fixed}
+use Rattle.obu_timing.specs.TimingView.{view_fixed}
 use Rattle.spec_blocks.specs.ParameterBlock.{subblocks_in}
 use Rattle.iamf_mixing.proofs.Subblocks.{starts_before, number_below, count_alike, duration_alike}
 use Rattle.iamf_mixing.proofs.gains.subblock_duration.Goals as goal

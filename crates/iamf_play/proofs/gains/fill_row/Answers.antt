@@ -1,5 +1,5 @@
 use Rattle.std.proofs.Common.{arith, ◌≡◌, ◌<◌, length}
-use Rattle.obu_mix.specs.MixGainView.{view_mix_gain}
+use Rattle.obu_mix_elements.specs.MixGainView.{view_mix_gain}
 use Rattle.spec_play.specs.Mixes.{unit_length}
 use Rattle.iamf_mixing.proofs.TrackSteps.{complete}
 use Rattle.iamf_play.proofs.gains.fill_row.Goals as goal

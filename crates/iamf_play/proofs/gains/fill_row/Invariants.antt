@@ -2,7 +2,7 @@ use Rattle.std.proofs.Common.{◌≡◌, ◌<◌, ◌≤◌, ◌+◌, ◌*◌, l
 use Rattle.spec_sequence.specs.Parts.{temporal_units}
 use Rattle.spec_sequence.specs.Reading.{values_of}
 use Rattle.spec_play.specs.Mixes.{Rendition, unit_length}
-use Rattle.obu_mix.specs.MixGainView.{view_mix_gain}
+use Rattle.obu_mix_elements.specs.MixGainView.{view_mix_gain}
 use Rattle.iamf_mixing.specs.Tracks.{IsOn, IsFilled}
 use Rattle.iamf_play.proofs.gains.fill_row.Given as goal
 

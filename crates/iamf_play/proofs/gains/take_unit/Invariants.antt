@@ -1,6 +1,6 @@
 use Rattle.std.proofs.Common.{◌≡◌, ◌≤◌, ◌+◌, ◌*◌, length}
 use Rattle.spec_play.specs.Mixes.{Rendition, unit_length, unit_of}
-use Rattle.obu_mix.specs.MixGainView.{view_mix_gain}
+use Rattle.obu_mix_elements.specs.MixGainView.{view_mix_gain}
 use Rattle.iamf_sequence.specs.UnitView.{IsUnit}
 use Rattle.iamf_mixing.specs.Tracks.{IsFilled}
 use Rattle.iamf_play.proofs.gains.take_unit.Given as goal

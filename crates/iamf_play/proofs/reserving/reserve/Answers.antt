@@ -4,7 +4,7 @@ use Rattle.spec_descriptors.specs.CodecConfig.{CodecConfigFields}
 use Rattle.spec_sequence.specs.Parts.{codec_configs}
 use Rattle.spec_sequence.specs.Reading.{values_of, roles}
 use Rattle.spec_waves.specs.Wave.{Shape}
-use Rattle.obu_mix.specs.MixGainView.{view_mix_gain}
+use Rattle.obu_mix_elements.specs.MixGainView.{view_mix_gain}
 use Rattle.spec_play.specs.declared.target.Target.{Target}
 use Rattle.spec_play.specs.Mixes.{rendition_of, unit_length}
 use Rattle.spec_play.specs.Waves.{wave_shape}

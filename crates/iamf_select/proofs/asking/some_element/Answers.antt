@@ -4,7 +4,7 @@ use Rattle.std.specs.List.{list_any}
 use Rattle.spec_sequence.specs.Parts.{audio_elements}
 use Rattle.spec_sequence.specs.Reading.{values_of}
 use Rattle.obu_descriptors.specs.ElementView.{view_element}
-use Rattle.obu_mix.specs.MixElementView.{view_mix_element}
+use Rattle.obu_mix_elements.specs.MixElementView.{view_mix_element}
 use Rattle.spec_play.specs.Mixes.{mixed_element, mixed_elements}
 use Rattle.iamf_select.specs.ElementTests.{holds}
 use Rattle.iamf_select.specs.CandidateView.{heard}

@@ -3,7 +3,7 @@ use Rattle.std.specs.Prelude.{slice_get}
 use Rattle.spec_sequence.specs.Parts.{audio_elements}
 use Rattle.spec_sequence.specs.Reading.{values_of}
 use Rattle.obu_descriptors.specs.ElementView.{view_element}
-use Rattle.obu_mix.specs.MixElementView.{view_mix_element}
+use Rattle.obu_mix_elements.specs.MixElementView.{view_mix_element}
 use Rattle.spec_play.specs.Mixes.{mixed_element, mixed_elements}
 use Rattle.iamf_select.proofs.Joined.{got_mapped, mixed_some, mixed_none}
 use Rattle.iamf_select.proofs.CountedElements.{counted, got_joined}

@@ -1,7 +1,7 @@
 use Rattle.std.proofs.Common.{◌≡◌, ◌≤◌, map, take, length}
 use Rattle.spec_sequence.specs.Parts.{audio_elements}
 use Rattle.spec_sequence.specs.Reading.{values_of}
-use Rattle.obu_mix.specs.MixElementView.{view_mix_element}
+use Rattle.obu_mix_elements.specs.MixElementView.{view_mix_element}
 use Rattle.spec_play.specs.Mixes.{mixed_elements}
 use Rattle.iamf_select.proofs.shapes.element_count.Given as goal
 

@@ -2,7 +2,7 @@ use Rattle.std.proofs.Common.{rules, arith, ◌≡◌, map, sym, ap, ◌∙◌}
 use Rattle.spec_play.specs.Waves.{output_counts, first_count}
 use Rattle.spec_sequence.specs.Parts.{audio_elements}
 use Rattle.spec_sequence.specs.Reading.{values_of}
-use Rattle.obu_mix.specs.MixElementView.{view_mix_element}
+use Rattle.obu_mix_elements.specs.MixElementView.{view_mix_element}
 use Rattle.spec_play.specs.Mixes.{mixed_elements}
 use Rattle.iamf_select.proofs.Joined.{got_mapped}
 use Rattle.iamf_select.proofs.CountedElements.{outputs_joined, first_of_joined}

@@ -5,7 +5,7 @@ use Rattle.spec_descriptors.specs.AudioElement.{coded_channels_of}
 use Rattle.spec_play.specs.Selection.{coded_channels}
 use Rattle.spec_sequence.specs.Parts.{audio_elements}
 use Rattle.spec_sequence.specs.Reading.{values_of}
-use Rattle.obu_mix.specs.MixElementView.{view_mix_element}
+use Rattle.obu_mix_elements.specs.MixElementView.{view_mix_element}
 use Rattle.spec_play.specs.Mixes.{MixedElement, mixed_element, mixed_elements}
 use Rattle.iamf_select.proofs.Joined.{got_mapped}
 use Rattle.iamf_select.proofs.CountedElements.{summed, within_sum}

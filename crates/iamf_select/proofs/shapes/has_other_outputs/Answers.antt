@@ -3,7 +3,7 @@ use Rattle.spec_play.specs.Waves.{output_counts, first_count}
 use Rattle.spec_play.specs.Selection.{are_different}
 use Rattle.spec_sequence.specs.Parts.{audio_elements}
 use Rattle.spec_sequence.specs.Reading.{values_of}
-use Rattle.obu_mix.specs.MixElementView.{view_mix_element}
+use Rattle.obu_mix_elements.specs.MixElementView.{view_mix_element}
 use Rattle.spec_play.specs.Mixes.{mixed_elements}
 use Rattle.iamf_select.proofs.Joined.{got_mapped}
 use Rattle.iamf_select.proofs.CountedElements.{other_here, other_next}

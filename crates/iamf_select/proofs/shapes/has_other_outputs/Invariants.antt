@@ -3,7 +3,7 @@ use Rattle.std.specs.Prelude.{not, ◌==◌}
 use Rattle.std.specs.List.{list_any}
 use Rattle.spec_sequence.specs.Parts.{audio_elements}
 use Rattle.spec_sequence.specs.Reading.{values_of}
-use Rattle.obu_mix.specs.MixElementView.{view_mix_element}
+use Rattle.obu_mix_elements.specs.MixElementView.{view_mix_element}
 use Rattle.spec_play.specs.Mixes.{mixed_elements}
 use Rattle.spec_play.specs.Waves.{output_counts}
 use Rattle.iamf_select.proofs.shapes.has_other_outputs.Given as goal

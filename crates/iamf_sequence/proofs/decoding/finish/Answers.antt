@@ -5,8 +5,8 @@ use Rattle.spec_descriptors.specs.SequenceHeader.{SequenceHeaderFields}
 use Rattle.spec_descriptors.specs.CodecConfig.{CodecConfigFields}
 use Rattle.spec_sequence.specs.Parts.{temporal_units, header_in, codec_in}
 use Rattle.spec_sequence.specs.Reading.{values_of}
-use Rattle.obu_descriptors.specs.declared.sequence_header.SequenceHeader.{SequenceHeader}
-use Rattle.obu_descriptors.specs.declared.codec_config.CodecConfig.{CodecConfig}
+use Rattle.obu_codec_config.specs.declared.sequence_header.SequenceHeader.{SequenceHeader}
+use Rattle.obu_codec_config.specs.declared.codec_config.CodecConfig.{CodecConfig}
 use Rattle.iamf_sequence.specs.declared.unit.Unit.{Unit as Temporal}
 use Rattle.iamf_sequence.specs.Tails.{with_tails}
 use Rattle.iamf_sequence.specs.ContentsView.{AreHeaders, AreCodecs}

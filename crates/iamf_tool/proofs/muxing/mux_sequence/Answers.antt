@@ -7,9 +7,9 @@ use Rattle.iamf_tool.proofs.muxing.mux_sequence.Goals as goal
 
 pub returns-in-Ok-write_parts : goal.returns-in-Ok-write_parts
 returns-in-Ok-write_parts g c =
-    all_written (given.Convert conversion.Mux) c.args.sequence.now.bytes (file_of c.in-Ok.parts) (side g.W.Sink.held g.W.Sink.faults c.args.out.now c.write_parts.new.out) (g.N.Sink.held c.args.notes.now) (g.N.Sink.faults c.args.notes.now) c.in-Ok.ensures c.in-Ok-write_parts.ensures
+    all_written (given.Convert conversion.Mux) c.args.sequence.now.bytes (file_of c.in-Ok.parts) (side g.W.Sink.held g.W.Sink.faults c.args.out.now c.write_parts.new.out) (g.N.Sink.held c.args.notes.now) (g.N.Sink.faults c.args.notes.now) c.in-Ok.ensures.file c.in-Ok-write_parts.ensures
 
 pub returns : goal.returns
 returns g c =
-    cut_off _ (given.Convert conversion.Mux) c.args.sequence.now.bytes (file_of c.in-Ok.parts) (side g.W.Sink.held g.W.Sink.faults c.args.out.now c.write_parts.new.out) _ c.ended-in-Err-write_parts.ensures.same c.in-Ok.ensures c.in-Err-write_parts.ensures
+    cut_off _ (given.Convert conversion.Mux) c.args.sequence.now.bytes (file_of c.in-Ok.parts) (side g.W.Sink.held g.W.Sink.faults c.args.out.now c.write_parts.new.out) _ c.ended-in-Err-write_parts.ensures.same c.in-Ok.ensures.file c.in-Err-write_parts.ensures
     c.ended-in-Err-write_parts.ensures.noted

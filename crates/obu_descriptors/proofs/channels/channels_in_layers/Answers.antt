@@ -1,8 +1,8 @@
 use Rattle.std.proofs.Common.{◌+◌, false, None, get_or, drop, map, sym, ◌∙◌, arith}
 use Rattle.spec_layouts.specs.declared.Layout.TheVariants.{Mono}
 use Rattle.spec_descriptors.specs.AudioElement.{layer_channels}
-use Rattle.obu_descriptors.specs.declared.layer.Layer.{Layer}
-use Rattle.obu_descriptors.specs.LayerView.{view_layer}
+use Rattle.obu_element_config.specs.declared.layer.Layer.{Layer}
+use Rattle.obu_element_config.specs.LayerView.{view_layer}
 use Rattle.obu_descriptors.proofs.Coupled.{drop_next, coupled_there, single_there, others_there}
 use Rattle.obu_descriptors.proofs.channels.channels_in_layers.Goals as goal
 

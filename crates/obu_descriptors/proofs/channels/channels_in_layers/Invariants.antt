@@ -1,7 +1,7 @@
 use Rattle.std.proofs.Common.{◌≡◌, drop, map}
 use Rattle.std.specs.Prelude.{slice_get}
 use Rattle.spec_descriptors.specs.AudioElement.{layer_channels}
-use Rattle.obu_descriptors.specs.LayerView.{view_layer}
+use Rattle.obu_element_config.specs.LayerView.{view_layer}
 use Rattle.obu_descriptors.specs.Channels.{AreCoupled}
 use Rattle.obu_descriptors.proofs.channels.channels_in_layers.Given as goal
 

@@ -2,7 +2,7 @@ use Rattle.std.proofs.Common.{◌≡◌, ◌+◌, length, map, ap, sym, refl, �
 use Rattle.std.specs.Prelude.{sum}
 use Rattle.spec_descriptors.specs.AudioElement.{layer_channels, coupled_first}
 use Rattle.spec_descriptors.proofs.ElementCounts.{valid_counts, sum-layer_channels, sum-coupled_first}
-use Rattle.obu_descriptors.specs.LayerView.{view_layer}
+use Rattle.obu_element_config.specs.LayerView.{view_layer}
 use Rattle.obu_descriptors.specs.ElementView.{view_element}
 use Rattle.std.proofs.lemmas.List.{length-map}
 use Rattle.obu_descriptors.proofs.channels.coded_channels.Goals as goal

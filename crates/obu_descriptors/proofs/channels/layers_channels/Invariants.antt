@@ -1,6 +1,6 @@
 use Rattle.std.proofs.Common.{◌≡◌, ◌+◌, ◌*◌, ◌≤◌, take, map}
 use Rattle.std.specs.Prelude.{sum_by}
-use Rattle.obu_descriptors.specs.LayerView.{view_layer}
+use Rattle.obu_element_config.specs.LayerView.{view_layer}
 use Rattle.obu_descriptors.proofs.channels.layers_channels.Given as goal
 
 abbrev pub invariant-loop-layer : goal.invariant-loop-layer

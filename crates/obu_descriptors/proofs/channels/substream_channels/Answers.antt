@@ -1,6 +1,6 @@
 use Rattle.std.proofs.Common.{length, map, sym, arith}
 use Rattle.spec_descriptors.proofs.ElementCounts.{valid_counts}
-use Rattle.obu_descriptors.specs.LayerView.{view_layer}
+use Rattle.obu_element_config.specs.LayerView.{view_layer}
 use Rattle.obu_descriptors.specs.ElementView.{view_element}
 use Rattle.obu_descriptors.proofs.Coupled.{each_coupled, coupled_only, single_only}
 use Rattle.obu_descriptors.proofs.channels.substream_channels.Goals as goal

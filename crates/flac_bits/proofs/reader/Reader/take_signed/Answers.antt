@@ -1,5 +1,5 @@
 use Rattle.std.proofs.Common.{rules, FitsSigned, w64, to_z-of_z}
-use Rattle.flac_bits.proofs.FieldsAt.{signed_there, signed_short}
+use Rattle.spec_bits.proofs.SignedFields.{signed_there, signed_short}
 use Rattle.flac_bits.proofs.reader.Reader.take_signed.Goals as goal
 
 pub returns-in-Ok-clause-takes : goal.returns-in-Ok-clause-takes

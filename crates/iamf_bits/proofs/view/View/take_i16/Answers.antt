@@ -3,7 +3,7 @@ use Rattle.std.proofs.Math.Facts.{to_z-of_z}
 use Rattle.std.specs.Int.{w16}
 use mir.Val.{SFits}
 use Rattle.std.proofs.lemmas.Int.{ints}
-use Rattle.iamf_bits.proofs.Place.{signed_there, signed_short}
+use Rattle.spec_bits.proofs.SignedFields.{signed_there, signed_short}
 use Rattle.iamf_bits.proofs.view.View.take_i16.Goals as goal
 
 pub returns-in-Ok-clause-takes : goal.returns-in-Ok-clause-takes

@@ -8,7 +8,7 @@ use Rattle.spec_descriptors.specs.CodecConfig.{CodecConfigFields}
 use Rattle.spec_demix.specs.Elements.{demix_layers_of}
 use Rattle.spec_demix.specs.Sent.{IsLayers}
 use Rattle.obu_descriptors.specs.ElementView.{view_element}
-use Rattle.obu_descriptors.specs.LayerView.{view_layer}
+use Rattle.obu_element_config.specs.LayerView.{view_layer}
 use Rattle.spec_sequence.specs.Reading.{Reads, values_of}
 use Rattle.spec_play.specs.declared.target.Target.{Target}
 use Rattle.spec_play.specs.Mixes.{no_codec}

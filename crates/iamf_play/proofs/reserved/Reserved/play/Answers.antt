@@ -5,7 +5,7 @@ use Rattle.std.proofs.lemmas.List.{with_items_is}
 use Rattle.spec_descriptors.specs.MixGain.{MixGainFields}
 use Rattle.spec_sequence.specs.Parts.{UnitValue, temporal_units}
 use Rattle.spec_sequence.specs.Reading.{values_of}
-use Rattle.obu_mix.specs.MixGainView.{view_mix_gain}
+use Rattle.obu_mix_elements.specs.MixGainView.{view_mix_gain}
 use Rattle.spec_play.specs.Mixes.{unit_length, codec_of}
 use Rattle.spec_play.specs.Waves.{wave_shape}
 use Rattle.iamf_mixing.specs.Bytes.{mixed_bytes}

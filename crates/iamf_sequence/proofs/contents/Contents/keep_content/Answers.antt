@@ -9,10 +9,10 @@ pub returns-in-CodecConfig : goal.returns-in-CodecConfig
 returns-in-CodecConfig c = rw c.in-CodecConfig.is (keeps_codec c.args.self.now c.in-CodecConfig.codec c.args.unit)
 
 pub returns-in_ok-push-in-AudioElement : goal.returns-in_ok-push-in-AudioElement
-returns-in_ok-push-in-AudioElement c = rw c.in-AudioElement.is (keeps_element c.args.self.now c.push.new.self c.in-AudioElement.element c.args.unit c.in_ok-push-in-AudioElement.ensures.items)
+returns-in_ok-push-in-AudioElement c = rw c.in-AudioElement.is (keeps_element c.args.self.now c.push.new.self c.in-AudioElement.element c.args.unit (rw c.into_inner.ensures at c.in_ok-push-in-AudioElement.ensures.items))
 
 pub returns-in_ok-push-in-MixPresentation : goal.returns-in_ok-push-in-MixPresentation
-returns-in_ok-push-in-MixPresentation c = rw c.in-MixPresentation.is (keeps_mix c.args.self.now c.push-in-MixPresentation.new.self c.in-MixPresentation.mix c.args.unit c.in_ok-push-in-MixPresentation.ensures.items)
+returns-in_ok-push-in-MixPresentation c = rw c.in-MixPresentation.is (keeps_mix c.args.self.now c.push-in-MixPresentation.new.self c.in-MixPresentation.mix c.args.unit (rw c.into_inner-in-MixPresentation.ensures at c.in_ok-push-in-MixPresentation.ensures.items))
 
 pub returns-in-ParameterBlock : goal.returns-in-ParameterBlock
 returns-in-ParameterBlock c =

@@ -4,7 +4,7 @@ use Rattle.spec_descriptors.specs.AudioElement.{audio_element}
 use Rattle.spec_descriptors.specs.ElementFields.{audio_element_fields}
 use Rattle.obu_descriptors.specs.ElementView.{view_element}
 use Rattle.spec_syntax.proofs.Fitting.{stands_fit}
-use Rattle.obu_descriptors.proofs.Spelling.{bytes_spelled}
+use Rattle.obu_timing.proofs.Spelling.{bytes_spelled}
 use Rattle.obu_descriptors.proofs.ElementAnswers.{reads_back}
 use Rattle.obu_descriptors.proofs.audio_element.AudioElement.write.Goals as goal
 

@@ -1,5 +1,0 @@
-use Rattle.obu_descriptors.proofs.ReadingBack.{one_entry}
-use Rattle.obu_descriptors.proofs.reading_back.codec_config_entry_law.Goals as goal
-
-pub returns : goal.returns
-returns c = one_entry

@@ -1,5 +1,0 @@
-use Rattle.obu_descriptors.proofs.ReadingBack.{codec_back}
-use Rattle.obu_descriptors.proofs.reading_back.written_codec_config_law.Goals as goal
-
-pub returns : goal.returns
-returns c = codec_back

@@ -1,5 +1,0 @@
-use Rattle.obu_descriptors.proofs.ReadingBack.{header_back}
-use Rattle.obu_descriptors.proofs.reading_back.written_sequence_header_law.Goals as goal
-
-pub returns : goal.returns
-returns c = header_back

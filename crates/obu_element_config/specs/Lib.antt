@@ -1,0 +1,3 @@
+pub mod LayerView
+pub mod AmbisonicsView
+pub mod ConfigView

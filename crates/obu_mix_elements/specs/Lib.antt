@@ -1,0 +1,2 @@
+pub mod MixGainView
+pub mod MixElementView

@@ -1,0 +1,2 @@
+pub mod TimingView
+pub mod Writing

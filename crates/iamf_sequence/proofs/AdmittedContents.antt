@@ -1,48 +1,43 @@
 -- An OBU that was admitted can be written: a plain one from the content that was handed out, a redundant copy from its view.
-use Rattle.std.proofs.Common.{◌≡◌, ℕ, ◌-◌, ◌<◌, true, false, List, [], ◌∷◌, ◌++◌, take, drop, refl, sym, ap, subst, ◌∙◌}
-use Rattle.std.specs.Prelude.{Option, Some, None, Result, Ok, Err, OnOk, MatchOption, IsTrue, is_some}
+use Rattle.std.proofs.Common.{◌≡◌, ℕ, ◌-◌, ◌<◌, true, List, [], ◌∷◌, ◌++◌, take, drop, refl, sym, ap, subst, ◌∙◌}
+use Rattle.std.specs.Prelude.{Option, Some, None, Result, Ok, Err, OnOk, IsTrue, is_some}
 use Rattle.std.proofs.lemmas.Bool.{and_parts}
 use Rattle.std.proofs.lemmas.List.{take-append-drop}
 use Rattle.spec_bits.specs.Bits.{Bits, AreBytes, all_bits}
-use Rattle.spec_bits.proofs.ByteForms.{AreBytes-parts}
+use Rattle.spec_bits.proofs.ByteForms.{AreBytes-parts, same_bytes}
 use Rattle.spec_obu.specs.declared.obu_type.ObuType.TheVariants as types
-use Rattle.spec_obu.specs.declared.trim.Trim.{Trim}
-use Rattle.spec_obu.specs.Kinds.{obu_type_of, is_reserved}
+use Rattle.spec_obu.specs.Kinds.{obu_type_of}
 use Rattle.spec_obu.specs.Header.{Head, Header, are_allowed, is_copy}
+use Rattle.spec_obu.specs.Canonical.{canonical_header}
 use Rattle.spec_blocks.specs.Shape.{Definition}
 use Rattle.spec_values.specs.Content.{Context, PayloadOf}
 use Rattle.spec_values.specs.Value.{ObuValue, Spells}
-use Rattle.spec_values.specs.Canonical.{canonical_obu, encoded}
+use Rattle.spec_values.specs.Canonical.{canonical_payload, canonical_obu}
 use Rattle.spec_values.proofs.BytesOfBits.{bytes-drop}
-use Rattle.spec_rules.specs.Role.{Role}
 use Rattle.spec_rules.specs.Descriptors.{frame_length, definitions, definitions_of, context_of}
 use Rattle.spec_rules.proofs.DescriptorLists.{frame_length-push, definitions-push}
 use Rattle.spec_sequence.specs.ValueRole.{role}
-use Rattle.spec_sequence.specs.Reading.{Entry, values_of, roles, context_after}
+use Rattle.spec_sequence.specs.Reading.{Entry, roles, context_after}
 use Rattle.spec_sequence.proofs.Roles.{roles_more, redundant_role}
 use Rattle.spec_sequence.proofs.RedundantCopies.{plain_of}
 use Rattle.obu_header.specs.declared.view.ObuView.{ObuView}
 use Rattle.obu_header.specs.View.{head_of}
 use Rattle.iamf_obu.specs.declared.content.Content.{Content}
 use Rattle.iamf_obu.specs.declared.content.Content.TheVariants.{SequenceHeader, CodecConfig, AudioElement, MixPresentation, ParameterBlock, TemporalDelimiter, AudioFrame, Reserved}
-use Rattle.iamf_obu.specs.ContentView.{type_in, Holds, IsValidContent, HasTrims}
+use Rattle.iamf_obu.specs.ContentView.{type_in, IsValidContent, HasTrims}
 use Rattle.iamf_obu.specs.ContentReading.{IsRead}
 use Rattle.iamf_obu.specs.ContentWriting.{context, value_of, IsShort, PutsObu}
 use Rattle.iamf_obu.proofs.CanonicalObu.{read_is_short}
 use Rattle.iamf_admission.specs.declared.admitted.Admitted.{Admitted}
 use Rattle.iamf_admission.specs.AdmissionView.{AdmissionValue}
 use Rattle.iamf_admission.specs.Taking.{IsNext, IsSaid, Says}
-use Rattle.iamf_sequence.specs.declared.respelling.Respelling.{Respelling}
 use Rattle.iamf_sequence.specs.Encoding.{IsViewOf}
-use Rattle.iamf_sequence.specs.Respelled.{IsRespelled}
-use Rattle.iamf_sequence.specs.Walking.{IsOneMore}
-use Rattle.iamf_sequence.proofs.CanonicalBytes.{bits_more, bytes_more}
+use Rattle.iamf_sequence.specs.Anew.{HasNoFields}
+use Rattle.iamf_sequence.specs.Walking.{IsOneMore, piece_of}
+use Rattle.iamf_sequence.proofs.CanonicalBytes.{canonical_bytes}
 use Rattle.iamf_sequence.proofs.WrittenObus.{context_is}
 
 -- ---- the bytes of the OBU
-
-abbrev piece_of : List ℕ → ℕ → ObuView → List ℕ
-piece_of bytes at view = take (view.end - at) (drop at bytes)
 
 piece_bytes : (k at : ℕ) (bytes : List ℕ) → AreBytes bytes → AreBytes (take k (drop at bytes))
 piece_bytes k at bytes are = (AreBytes-parts (take k (drop at bytes)) (drop k (drop at bytes)) (subst AreBytes (sym (take-append-drop k (drop at bytes))) (bytes-drop at bytes are))).0
@@ -125,30 +120,40 @@ still_valid content l e ds kind said definitions_are same = subst (λ (k : ℕ).
 
 -- ---- it is written
 
-respelled : (bytes : List ℕ) (at : ℕ) (a : AdmissionValue) (view : ObuView) (obu : Admitted) (l : List Entry) (e : Entry) (old new : Respelling) → IsOneMore bytes at a view obu l e → IsRespelled old l → new.out.used ≡ 0
-    → new.out.bits ≡ old.out.bits ++ all_bits (canonical_obu e.value) → IsRespelled new (l ++ e ∷ [])
-respelled bytes at a view obu l e old new is was used bits = record {
-  used = used;
-  bits = bits_more l e old.out.bits new.out.bits was.bits bits;
-  are = bytes_more (context_after l) l e e.payload (piece_of bytes at view) (spells_piece bytes at a view obu l e is) (piece_bytes (view.end - at) at bytes is.are) was.are;
-}
+pub spelled_bytes : (bytes : List ℕ) (at : ℕ) (a : AdmissionValue) (view : ObuView) (obu : Admitted) (l : List Entry) (e : Entry) → IsOneMore bytes at a view obu l e → AreBytes (canonical_obu e.value)
+spelled_bytes bytes at a view obu l e is =
+    canonical_bytes (context_after l) e.value e.payload (piece_of bytes at view) (spells_piece bytes at a view obu l e is) (piece_bytes (view.end - at) at bytes is.are)
 
-abbrev pub Respells : Respelling → Respelling → AdmissionValue → ObuView → Admitted → Type 0
-Respells old new a view obu = (bytes : List ℕ) (at : ℕ) (l : List Entry) (e : Entry) → IsRespelled old l → IsOneMore bytes at a view obu l e → IsRespelled new (l ++ e ∷ [])
+abbrev pub Puts : Bits → Bits → AdmissionValue → ObuView → Admitted → Type 0
+Puts old new a view obu = (bytes : List ℕ) (at : ℕ) (l : List Entry) (e : Entry) → IsOneMore bytes at a view obu l e → new ≡ old ++ all_bits (canonical_obu e.value)
 
-pub plain_respelled : {E : Type 0} (r : Result (Unit {0}) E) (old new : Respelling) (a : AdmissionValue) (view : ObuView) (obu : Admitted) (content : Content) → obu.content ≡ Some content
-    → OnOk r (PutsObu (head_of view.head) content old.out.bits new.out.bits) → OnOk r (new.out.used ≡ 0) → OnOk r (Respells old new a view obu)
-plain_respelled (Ok u) old new a view obu content is puts used = λ bytes at l e was one.
+pub plain_put : {E : Type 0} (r : Result (Unit {0}) E) (old new : Bits) (a : AdmissionValue) (view : ObuView) (obu : Admitted) (content : Content) → obu.content ≡ Some content
+    → OnOk r (PutsObu (head_of view.head) content old new) → OnOk r (Puts old new a view obu)
+plain_put (Ok u) old new a view obu content is puts = λ bytes at l e one.
     let said = said_is content obu l e is one.next.taken.says in
-    let put : new.out.bits ≡ old.out.bits ++ all_bits (canonical_obu e.value) =
-    puts e.value.content e.value.tail said.holds ∙ ap (λ (h : Head). old.out.bits ++ all_bits (canonical_obu (value_of h e.value.content e.value.tail))) (sym one.next.taken.next.head) in
-    respelled bytes at a view obu l e old new one was used put
-plain_respelled (Err x) old new a view obu content is puts used = tt
+    puts e.value.content e.value.tail said.holds ∙ ap (λ (h : Head). old ++ all_bits (canonical_obu (value_of h e.value.content e.value.tail))) (sym one.next.taken.next.head)
+plain_put (Err x) old new a view obu content is puts = tt
 
-pub copy_respelled : {E : Type 0} (r : Result (Unit {0}) E) (old new : Respelling) (a : AdmissionValue) (view : ObuView) (obu : Admitted) (n : ℕ) (ds : List Definition) → obu.content ≡ None
+pub copy_put : {E : Type 0} (r : Result (Unit {0}) E) (old new : Bits) (a : AdmissionValue) (view : ObuView) (obu : Admitted) (n : ℕ) (ds : List Definition) → obu.content ≡ None
     → ((bytes : List ℕ) (at : ℕ) (l : List Entry) (e : Entry) → IsOneMore bytes at a view obu l e → (n ≡ frame_length (roles (l ++ e ∷ []))) × (ds ≡ definitions (roles (l ++ e ∷ []))))
-    → OnOk r ((o : ObuValue) → IsViewOf n ds view o → new.out.bits ≡ old.out.bits ++ all_bits (canonical_obu o)) → OnOk r (new.out.used ≡ 0) → OnOk r (Respells old new a view obu)
-copy_respelled (Ok u) old new a view obu n ds none known puts used = λ bytes at l e was one.
+    → OnOk r ((o : ObuValue) → IsViewOf n ds view o → new ≡ old ++ all_bits (canonical_obu o)) → OnOk r (Puts old new a view obu)
+copy_put (Ok u) old new a view obu n ds none known puts = λ bytes at l e one.
     let k = known bytes at l e one in
-    respelled bytes at a view obu l e old new one was used (puts e.value (copy_view bytes at a view obu l e n ds one none k.0 k.1))
-copy_respelled (Err x) old new a view obu n ds none known puts used = tt
+    puts e.value (copy_view bytes at a view obu l e n ds one none k.0 k.1)
+copy_put (Err x) old new a view obu n ds none known puts = tt
+
+-- a spelling that was put alone
+pub alone : (v : List ℕ) (bits : Bits) (a : AdmissionValue) (view : ObuView) (obu : Admitted) → AreBytes v → all_bits v ≡ bits → Puts [] bits a view obu
+    → (bytes : List ℕ) (at : ℕ) (l : List Entry) (e : Entry) → IsOneMore bytes at a view obu l e → v ≡ canonical_obu e.value
+alone v bits a view obu are is puts bytes at l e one = same_bytes v (canonical_obu e.value) are (spelled_bytes bytes at a view obu l e one) (is ∙ puts bytes at l e one)
+
+-- ---- it is there already
+
+-- a header with no number but its size, in an OBU whose payload has no fields
+pub already : (bytes : List ℕ) (at : ℕ) (a : AdmissionValue) (view : ObuView) (obu : Admitted) (l : List Entry) (e : Entry) (there : List ℕ) → IsOneMore bytes at a view obu l e → HasNoFields view.head.kind
+    → canonical_header (head_of view.head) view.payload.now ≡ there → there ≡ canonical_obu e.value
+unfolding canonical_obu
+already bytes at a view obu l e there one none is =
+    let next = one.next.taken.next in
+    let payload : canonical_payload e.value ≡ view.payload.now = none (context_after l) e.value e.payload (ap (λ (h : Head). h.kind) next.head) next.payload_is ∙ next.payload in
+    sym (ap (canonical_header e.value.head) payload ∙ ap (λ (h : Head). canonical_header h view.payload.now) next.head ∙ is)

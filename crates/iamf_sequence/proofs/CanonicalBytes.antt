@@ -1,9 +1,8 @@
 -- The canonical spelling of an OBU that is spelled by bytes is bytes, and so are many one after the other.
-use Rattle.std.proofs.Common.{◌≡◌, ℕ, ◌<◌, List, [], ◌∷◌, ◌++◌, length, append_assoc, append-nil, length-append, refl, sym, ap, subst, ◌∙◌, arith}
+use Rattle.std.proofs.Common.{◌≡◌, ℕ, ◌<◌, List, [], ◌∷◌, ◌++◌, length, append_assoc, append-nil, length-append, sym, ap, subst, ◌∙◌, arith}
 use Rattle.std.specs.Prelude.{Option, Some, None}
-use Rattle.spec_bits.specs.Bits.{Bits, AreBytes, all_bits}
+use Rattle.spec_bits.specs.Bits.{AreBytes}
 use Rattle.spec_bits.specs.Leb.{leb_bytes}
-use Rattle.spec_bits.proofs.BitsLaws.{all_bits-append}
 use Rattle.spec_bits.proofs.ByteForms.{AreBytes-append, AreBytes-parts}
 use Rattle.spec_bits.proofs.CanonLaws.{leb_canonical}
 use Rattle.spec_obu.specs.declared.trim.Trim.{Trim}
@@ -51,17 +50,5 @@ encoded-push : (s : List ObuValue) (o : ObuValue) → encoded (s ++ o ∷ []) �
 encoded-push [] o = append-nil (canonical_obu o)
 encoded-push (x ∷ xs) o = ap (λ (b : List ℕ). canonical_obu x ++ b) (encoded-push xs o) ∙ sym (append_assoc (canonical_obu x) (encoded xs) (canonical_obu o))
 
-encoded_more : (l : List Entry) (e : Entry) → encoded (values_of (l ++ e ∷ [])) ≡ encoded (values_of l) ++ canonical_obu e.value
+pub encoded_more : (l : List Entry) (e : Entry) → encoded (values_of (l ++ e ∷ [])) ≡ encoded (values_of l) ++ canonical_obu e.value
 encoded_more l e = ap encoded (values_more l e) ∙ encoded-push (values_of l) e.value
-
-pub bits_more : (l : List Entry) (e : Entry) (old new : Bits) → old ≡ all_bits (encoded (values_of l)) → new ≡ old ++ all_bits (canonical_obu e.value) → new ≡ all_bits (encoded (values_of (l ++ e ∷ [])))
-bits_more l e old new before more =
-    more ∙ ap (λ (b : Bits). b ++ all_bits (canonical_obu e.value)) before ∙ sym (all_bits-append (encoded (values_of l)) (canonical_obu e.value)) ∙ ap all_bits (sym (encoded_more l e))
-
-pub bytes_more : (context : Context) (l : List Entry) (e : Entry) (payload piece : List ℕ) → Spells context e.value payload piece → AreBytes piece → AreBytes (encoded (values_of l)) → AreBytes (encoded (values_of (l ++ e ∷ [])))
-bytes_more context l e payload piece spells piece_is are =
-    subst AreBytes (sym (encoded_more l e)) (AreBytes-append (encoded (values_of l)) (canonical_obu e.value) are (canonical_bytes context e.value payload piece spells piece_is))
-
-pub no_bits : (bits : Bits) → bits ≡ [] → bits ≡ all_bits (encoded [])
-unfolding all_bits
-no_bits bits none = none

@@ -9,7 +9,6 @@ use Rattle.std.proofs.lemmas.List.Elements.{All-nil, All-push}
 use Rattle.spec_obu.specs.declared.obu_type.ObuType.{ObuType}
 use Rattle.spec_obu.specs.declared.obu_type.ObuType.TheVariants as types
 use Rattle.spec_obu.specs.declared.trim.Trim.{Trim}
-use Rattle.spec_obu.specs.Header.{is_copy}
 use Rattle.spec_descriptors.specs.SequenceHeader.{SequenceHeaderFields}
 use Rattle.spec_descriptors.specs.CodecConfig.{CodecConfigFields}
 use Rattle.spec_descriptors.specs.AudioElement.{AudioElementFields}
@@ -26,12 +25,12 @@ use Rattle.spec_rules.specs.Rules.{fault_before, fault_after}
 use Rattle.spec_rules.specs.Admitted.{IsAdmitted, HasNoFault, type_of_role}
 use Rattle.spec_rules.proofs.Basics.{flat_map-push, none_of, unmapped}
 use Rattle.spec_rules.proofs.NoFault.{header_before, codec_none}
-use Rattle.spec_sequence.specs.ValueRole.{trim_of, role_of_codec, role_of_nothing, role}
+use Rattle.spec_sequence.specs.ValueRole.{trim_of, role_of_codec, role}
 use Rattle.spec_sequence.specs.Reading as reading
 use Rattle.spec_sequence.specs.Reading.{Entry, values_of}
-use Rattle.spec_sequence.specs.Parts.{roles_of, of_plain, header_in, codec_in, element_in, mix_in, frame_of, block_of, sequence_headers, codec_configs, UnitValue, temporal_units}
+use Rattle.spec_sequence.specs.Parts.{roles_of, header_in, codec_in, element_in, mix_in, frame_of, block_of, sequence_headers, codec_configs, UnitValue, temporal_units}
 use Rattle.spec_sequence.proofs.RedundantCopies.{plain_of}
-use Rattle.spec_sequence.proofs.Roles.{roles_of_values, nothing_of}
+use Rattle.spec_sequence.proofs.Roles.{roles_of_values}
 use Rattle.spec_sequence.proofs.RolesOfParts.{profiles_are, codecs_are}
 use Rattle.obu_codec_config.specs.HeaderView.{view_header}
 use Rattle.obu_descriptors.specs.ElementView.{view_element}

@@ -1,5 +1,5 @@
 -- What the payload of an OBU of a sequence says after all of its OBUs.
-use Rattle.std.proofs.Common.{◌≡◌, ℕ, zero, suc, Bool, true, false, not, ◌||◌, inl, inr, List, [], ◌∷◌, ◌++◌, fold, refl, sym, ap, subst, ◌∙◌, append-nil, append_assoc, true≢false}
+use Rattle.std.proofs.Common.{◌≡◌, ℕ, zero, suc, Bool, true, false, not, ◌||◌, inl, inr, List, [], ◌∷◌, ◌++◌, fold, refl, sym, ap, subst, ◌∙◌, append-nil, append_assoc}
 use Rattle.std.specs.Prelude.{None, Some, is_some, slice_get}
 use Rattle.std.specs.List.{list_any, flat_map}
 use Rattle.std.proofs.lemmas.Bool.{cases_Bool, or_cases, or_right, and_parts}
@@ -27,7 +27,6 @@ use Rattle.spec_sequence.specs.Reading.{Entry, roles, context_after, is_copied, 
 use Rattle.spec_sequence.proofs.FixedContext.{keeps-push, length_stays}
 use Rattle.spec_sequence.proofs.Roles.{roles_more, roles-append}
 use Rattle.spec_sequence.proofs.RedundantCopies.{early_copy, copied_parts}
-use Rattle.spec_values.proofs.KindsOfTypes.{element_type, block_type}
 use Rattle.spec_values.proofs.Contents.{says_elsewhere, element_content, block_content}
 use Rattle.iamf_sequence.proofs.NoDefinition.{none_defined}
 

@@ -11,8 +11,10 @@ pub mod Lasting
 pub mod NoDefinition
 pub mod ObuPlaces
 pub mod Parting
+pub mod PartsJoined
 pub mod ReadAgain
 pub mod SequenceParts
+pub mod ShortestHeaders
 pub mod Sorted
 pub mod Tiling
 pub mod UnitBounds

@@ -1,5 +1,5 @@
 -- The view of an OBU of a sequence is of it, by the frame length and the definitions of the whole sequence.
-use Rattle.std.proofs.Common.{◌≡◌, ℕ, List, [], sym, subst, ◌∙◌}
+use Rattle.std.proofs.Common.{◌≡◌, ℕ, List, [], sym, subst}
 use Rattle.spec_bits.specs.Bits.{AreBytes}
 use Rattle.spec_blocks.specs.Shape.{Definition}
 use Rattle.spec_values.specs.Content.{Context}
@@ -7,7 +7,7 @@ use Rattle.spec_values.specs.Value.{Spells}
 use Rattle.spec_rules.specs.Descriptors.{frame_length, definitions}
 use Rattle.spec_rules.specs.Admitted.{IsAdmitted, AdmittedAfter}
 use Rattle.spec_rules.specs.Role.{Role}
-use Rattle.spec_sequence.specs.Reading.{Entry, roles}
+use Rattle.spec_sequence.specs.Reading.{roles}
 use Rattle.spec_sequence.proofs.FixedContext.{keeps-nil}
 use Rattle.obu_header.specs.declared.view.ObuView.{ObuView}
 use Rattle.iamf_obu.specs.ContentWriting.{context}

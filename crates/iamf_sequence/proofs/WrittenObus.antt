@@ -1,5 +1,5 @@
 -- OBUs that are written from their views.
-use Rattle.std.proofs.Common.{◌≡◌, ℕ, ◌<◌, ◌++◌, List, [], ◌∷◌, length, sym, ap, subst, ◌∙◌}
+use Rattle.std.proofs.Common.{◌≡◌, ℕ, ◌<◌, ◌++◌, List, [], sym, ap, subst, ◌∙◌}
 use Rattle.std.specs.Prelude.{Result, Ok, Err, OnOk, Some, IsTrue, is_some, slice_get, option_map}
 use Rattle.std.proofs.lemmas.Option.{slice_get-map}
 use Rattle.spec_bits.specs.Bits.{Bits, AreBytes, all_bits}
@@ -8,8 +8,8 @@ use Rattle.spec_obu.specs.Kinds.{obu_type_of}
 use Rattle.spec_obu.specs.Header.{Head, Header, are_allowed}
 use Rattle.spec_blocks.specs.Shape.{Definition}
 use Rattle.spec_values.specs.declared.fault.Fault.{Fault}
-use Rattle.spec_values.specs.Content.{Content, Context, PayloadOf, SaysNot}
-use Rattle.spec_values.specs.Value.{ObuValue, Spells}
+use Rattle.spec_values.specs.Content.{Content, PayloadOf, SaysNot}
+use Rattle.spec_values.specs.Value.{ObuValue}
 use Rattle.spec_values.specs.Canonical.{canonical_obu}
 use Rattle.spec_values.proofs.Payloads.{one_content, not_both}
 use Rattle.spec_rules.specs.Descriptors.{frame_length, definitions, context_of}

@@ -1,5 +1,5 @@
 -- Bytes are spellings of one list of OBUs. No definition: the proof stands here because a ghost field cites it.
-use Rattle.std.proofs.Common.{◌≡◌, ℕ, List, refl, sym, ap, subst, ◌∙◌}
+use Rattle.std.proofs.Common.{◌≡◌, ℕ, List, ap, subst}
 use Rattle.std.proofs.Math.Logic.{∥∥₁_elim, ∥∥₁_prop}
 use Rattle.std.proofs.Props.{props}
 use Rattle.spec_sequence.specs.Reading.{Entry}

@@ -2,7 +2,6 @@
 use Rattle.std.specs.Prelude.{◌≡◌, ℕ, true, ◌==◌, ◌<◌, nat_lt, if◌then◌else◌, List, [], ◌∷◌, ◌++◌, length, map, find, Option, Some, None}
 use Rattle.std.specs.Borrow.{Bor}
 use Rattle.std.specs.List.{All}
-use Rattle.spec_obu.specs.declared.trim.Trim.{Trim}
 use Rattle.spec_rules.specs.Units.{are_apart}
 use Rattle.spec_sequence.specs.Parts.{FrameValue, BlockValue, UnitValue, first_trim}
 use Rattle.obu_data.specs.BlockView.{view_block, bytes_after, IsOpaque}

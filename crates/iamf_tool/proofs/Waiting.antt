@@ -72,6 +72,10 @@ failed_among a b c m n k waited done middle piece rest all first next is =
 
 -- ---- the bytes of slices
 
+pub joined_is : (us : List (Bor (List ℕ))) → joined us ≡ flat_map (λ (u : Bor (List ℕ)). u.now) us
+joined_is [] = refl
+joined_is (u ∷ us) = ap (λ (t : List ℕ). u.now ++ t) (joined_is us)
+
 pub pieces_around : (us : List (Bor (List ℕ))) (i : ℕ) (d : Bor (List ℕ)) → i < length us → joined (take i us) ++ ((get_or us i d).now ++ joined (drop (i + 1) us)) ≡ joined us
 pieces_around [] i d less = absurd (omega arith)
 pieces_around (u ∷ us) zero d less = refl
@@ -136,3 +140,14 @@ pub both_written : (r : Result (Unit {0}) Failed) (a b c d : Option (List ℕ)) 
 both_written r a b c d m n k j waited piece text middle next more waiting none is are first second last =
     let both : Passed [] (text ++ more) waiting (between a c m k) = rw (none, is, are) at (passed_more a b c m n k waited piece middle next waiting first second) in
     ends r a c d m k j (text ++ more) waiting both last
+
+-- ---- one text, before which nothing waits
+
+pub alone_failed : (a b : Option (List ℕ)) (m n : ℕ) (waited text : List ℕ) → waited ≡ [] → WroteFront (between a b m n) (waited ++ text) → WroteFront (between a b m n) text
+alone_failed a b m n waited text none first = rw none at first
+
+pub alone_written : (r : Result (Unit {0}) Failed) (a b c : Option (List ℕ)) (m n k : ℕ) (waited text waiting : List ℕ) → waited ≡ [] → Passed waited text waiting (between a b m n) → Writes r waiting (between b c n k)
+    → Writes r text (between a c m k)
+alone_written r a b c m n k waited text waiting none first last =
+    let all : Passed [] text waiting (between a b m n) = rw none at first in
+    ends r a b c m n k text waiting all last

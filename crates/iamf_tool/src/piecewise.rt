@@ -68,6 +68,21 @@ pub fn put_pieces<W: Sink>(
     Ok(())
 }
 
+/// Writes pieces, before which nothing waits, and flushes.
+pub fn write_pieces<W: Sink>(
+    waiting: &mut BytesMut,
+    pieces: &[&[u8]],
+    out: &mut W,
+) -> Result<(), Failed>
+    requires { waiting.old.items ≡ [] }
+    ensures { Writes result (joined pieces.now) (side W.held W.faults out.old out.new) }
+{
+    match put_pieces(waiting, pieces, out) {
+        Ok(()) => finish(waiting, out),
+        Err(failed) => Err(failed),
+    }
+}
+
 /// Writes each sample after a delimiter, as `put_piece` each.
 pub fn put_samples<W: Sink>(
     waiting: &mut BytesMut,

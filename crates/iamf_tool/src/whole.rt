@@ -30,7 +30,7 @@ fn convert<W: Sink, N: Sink>(
 {
     match conversion {
         Conversion::List => conclude(alloc, list_lines(alloc, bytes), out, notes),
-        Conversion::Canon => conclude(alloc, canon(alloc, bytes), out, notes),
+        Conversion::Canon => canon(alloc, bytes, out, notes),
         Conversion::Mux => mux(alloc, bytes, out, notes),
         Conversion::Demux => demux(alloc, bytes, out, notes),
     }

@@ -1,4 +1,4 @@
-use Rattle.std.proofs.Common.{ap, sym, subst, ◌∙◌}
+use Rattle.std.proofs.Common.{ap, ◌∙◌}
 use Rattle.spec_values.specs.Canonical.{encoded}
 use Rattle.iamf_sequence.proofs.ReadAgain.{same_values, only_memory}
 use Rattle.iamf_sequence.proofs.encoding.encode.Goals as goal

@@ -1,4 +1,4 @@
-use Rattle.std.proofs.Common.{◌≡◌, refl, sym, subst, ◌∙◌}
+use Rattle.std.proofs.Common.{subst, ◌∙◌}
 use Rattle.spec_bits.specs.Bits.{AreBytes}
 use Rattle.iamf_sequence.specs.SequenceValue.{SequenceValue}
 use Rattle.iamf_sequence.specs.SequenceView.{IsSequence}

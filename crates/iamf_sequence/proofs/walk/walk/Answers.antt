@@ -1,7 +1,7 @@
-use Rattle.std.proofs.Common.{◌≡◌, ◌+◌, ℕ, List, [], ◌∷◌, ◌++◌, length, length-append, take, refl, sym, ap, subst, ◌∙◌, arith}
+use Rattle.std.proofs.Common.{◌≡◌, ℕ, List, [], ◌∷◌, ◌++◌, length, length-append, take, refl, sym, ap, subst, ◌∙◌, arith}
 use Rattle.std.proofs.Math.Seq.{take-length}
 use Rattle.spec_bits.specs.Bits.{AreBytes}
-use Rattle.spec_sequence.specs.Reading.{Entry, Admitted, roles}
+use Rattle.spec_sequence.specs.Reading.{Admitted}
 use Rattle.iamf_sequence.specs.declared.refusal.DecodeError.{DecodeError}
 use Rattle.iamf_sequence.specs.Places.{IsRefused}
 use Rattle.iamf_sequence.specs.Walking.{IsAtPlace, IsOneMore}
@@ -38,7 +38,7 @@ take-requires-in-loop-at g c κs =
     let s = c.loop-at.invariant.stands in
     let t = c.in-Ok-take.ensures.takes s.0 s.2 in
     let are = subst AreBytes c.as_bytes_below_256-bytes.ensures.same c.as_bytes_below_256-bytes.ensures.below in
-    let next : IsAtPlace c.args.buffer.now c.loop-at.at c.in-Ok.view c.in-Ok-take.obu s.0 t.0 = record { place = c.in-Ok.ensures.at; onward = c.in-Ok.ensures.begins; header = c.in-Ok.ensures.header; taken = t.1 } in
+    let next : IsAtPlace c.args.buffer.now c.loop-at.at c.in-Ok.view c.in-Ok-take.obu s.0 t.0 = record { place = c.in-Ok.ensures.at; onward = c.in-Ok.ensures.begins; within = c.in-Ok.ensures.within; header = c.in-Ok.ensures.header; taken = t.1 } in
     ((refl, tt), (c.args.buffer.now, c.loop-at.at, s.0, t.0, s.3, record { are = are; admitted = roles_admitted c.loop-at.admission s.0 s.2; next = next; after = t.2 }))
 
 pub loop-at-preserved : goal.loop-at-preserved
@@ -46,7 +46,7 @@ loop-at-preserved g c =
     let s = c.loop-at.invariant.stands in
     let t = c.in-Ok-take.ensures.takes s.0 s.2 in
     let are = subst AreBytes c.as_bytes_below_256-bytes.ensures.same c.as_bytes_below_256-bytes.ensures.below in
-    let next : IsAtPlace c.args.buffer.now c.loop-at.at c.in-Ok.view c.in-Ok-take.obu s.0 t.0 = record { place = c.in-Ok.ensures.at; onward = c.in-Ok.ensures.begins; header = c.in-Ok.ensures.header; taken = t.1 } in
+    let next : IsAtPlace c.args.buffer.now c.loop-at.at c.in-Ok.view c.in-Ok-take.obu s.0 t.0 = record { place = c.in-Ok.ensures.at; onward = c.in-Ok.ensures.begins; within = c.in-Ok.ensures.within; header = c.in-Ok.ensures.header; taken = t.1 } in
     let one : IsOneMore c.args.buffer.now c.loop-at.at c.take.new.self c.in-Ok.view c.in-Ok-take.obu s.0 t.0 = record { are = are; admitted = roles_admitted c.loop-at.admission s.0 s.2; next = next; after = t.2 } in
     record {
       number = omega (arith, t.2.count, s.2.count, length-append s.0 (t.0 ∷ []), c.loop-at.invariant.number, c.in-Ok.ensures.begins);

@@ -1,11 +1,14 @@
-use Rattle.std.proofs.Common.{subst, ◌∙◌}
-use Rattle.spec_bits.specs.Bits.{AreBytes}
-use Rattle.spec_bits.proofs.ByteForms.{same_bytes}
-use Rattle.spec_values.specs.Canonical.{encoded}
-use Rattle.spec_sequence.specs.Reading.{values_of}
+use Rattle.std.proofs.Common.{arith}
+use Rattle.iamf_sequence.specs.PartBytes.{bytes_of}
+use Rattle.iamf_sequence.proofs.PartsJoined.{finished}
 use Rattle.iamf_sequence.proofs.respelling.Respelling.finish.Goals as goal
+
+pub close-requires-clause-onward : goal.close-requires-clause-onward
+close-requires-clause-onward c = let r = c.requires.1 in omega (arith, r.onward, r.place)
+
+pub close-requires-clause-within : goal.close-requires-clause-within
+close-requires-clause-within c = let r = c.requires.1 in omega (arith, r.place)
 
 pub returns : goal.returns
 returns c = λ l is.
-    let are = subst AreBytes (c.as_bytes_below_256-spellings.ensures.same ∙ c.as_slice.ensures.value) c.as_bytes_below_256-spellings.ensures.below in
-    same_bytes c.finish-spellings.result.items (encoded (values_of l)) are is.are (c.finish-spellings.ensures ∙ is.bits)
+    finished (bytes_of c.args.self.parts.items) (bytes_of c.close.new.self.parts.items) c.new.result.items c.args.self.buffer.now c.args.self.start c.args.self.end _ l is.spelled is.place c.in_ok-close.ensures.closed c.new.ensures.items

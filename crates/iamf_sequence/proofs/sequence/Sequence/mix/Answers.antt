@@ -1,4 +1,4 @@
-use Rattle.std.proofs.Common.{◌<◌, length, sym, subst}
+use Rattle.std.proofs.Common.{◌<◌, sym, subst}
 use Rattle.iamf_sequence.specs.SequenceValue.{SequenceValue}
 use Rattle.iamf_sequence.specs.SequenceView.{IsSequence}
 use Rattle.iamf_sequence.proofs.SequenceParts.{mixes_counted, found_at}

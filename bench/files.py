@@ -1,4 +1,4 @@
-"""Writes the MP4 files of `hostile_files.py`. docs/FORMAT.md has the boxes.
+"""Writes the MP4 files of `hostile_files.py`. crates/spec_boxes has the boxes.
 
 All hold LPCM, mono, 16 bits and one sample a frame, so that a unit's one frame is an OBU of four bytes.
 """

@@ -1,4 +1,4 @@
-"""The exact samples of a mix, in fractions, for scripts/played.py: demixing and gains as the pages on the format have them."""
+"""The exact samples of a mix, in fractions, for scripts/played.py: demixing and gains as crates/spec_demix and crates/spec_gains have them."""
 
 from fractions import Fraction
 from math import lcm

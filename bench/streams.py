@@ -1,6 +1,6 @@
-"""Writes the streams of `sequences.py` and `hostile.py`: LPCM sequences in canonical spelling.
+"""Writes the streams of the other scripts: sequences in canonical spelling, and the OBUs of which they are made.
 
-Each function writes one file piece by piece, since the memory of the script counts in the measured peaks, and answers what
+A function that writes a file does so piece by piece, since the memory of the script counts in the measured peaks, and answers what
 the stream is: how many OBUs it has, and the last two lines of its report. docs/FORMAT_DESCRIPTORS.md has the fields.
 """
 

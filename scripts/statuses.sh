@@ -1,6 +1,6 @@
 #!/bin/sh
-# Shows each status of the built program, and an answer of each command, with what then stands on standard output and
-# standard error.
+# Shows each status of the built program but 7, and an answer of `list`, `check`, `canon` and `play`, with what then stands on standard
+# output and standard error.
 #
 # Usage: scripts/statuses.sh [--large]
 # The program is $IAMF_TOOL, or the one that the launcher builds. Status 6 needs some 2 GB of memory, and is shown with --large

@@ -113,11 +113,17 @@ def count_with_perf(command, stream):
     return int(count.group(1)) if count else None
 
 
+# The C library fills and copies large blocks by one instruction that repeats itself. A processor counts it once, and valgrind
+# once a byte; so the library is told to take its loops.
+WITHOUT_REPEATS = "glibc.cpu.x86_rep_stosb_threshold=1073741824:glibc.cpu.x86_rep_movsb_threshold=1073741824"
+
+
 def count_with_callgrind(command, stream):
     with open(stream, "rb") as source:
         result = subprocess.run(
             ["valgrind", "--tool=callgrind", "--callgrind-out-file=/dev/null", *command],
-            stdin=source, stdout=subprocess.DEVNULL, stderr=subprocess.PIPE, text=True, check=False)
+            stdin=source, stdout=subprocess.DEVNULL, stderr=subprocess.PIPE, text=True, check=False,
+            env={**os.environ, "GLIBC_TUNABLES": WITHOUT_REPEATS})
     count = re.search(r"Collected : (\d+)", result.stderr)
     if result.returncode != 0 or not count:
         raise Fails(f"valgrind counted nothing for {command[0]}")

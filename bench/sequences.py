@@ -88,7 +88,7 @@ def report(folder, quick):
     ratios(f"check / list, {size} MB of 7.1.4, {stream.obus} OBUs", checking, listing, CHECK_LIMIT)
     ratios(f"canon / list, {size} MB of 7.1.4, {stream.obus} OBUs", writing, listing, CANON_LIMIT)
     row("check: peak memory", f"{checking.peak / MIB:.1f} MiB", "", "")
-    row("canon: peak memory above input and output", f"{(writing.peak - 2 * length) / MIB:.1f} MiB", "", "")
+    row("canon: peak memory above the input", f"{(writing.peak - length) / MIB:.1f} MiB", "", "")
     if EARLIER:
         report_earlier(path, size)
     report_ffmpeg(path, size)

@@ -1,6 +1,6 @@
 #!/bin/sh
-# Shows each status of the built program but 7, and an answer of `list`, `check`, `canon` and `play`, with what then stands on standard
-# output and standard error.
+# Shows each status of the built program but 7, and an answer of each command, with what then stands on standard output and
+# standard error.
 #
 # Usage: scripts/statuses.sh [--large]
 # The program is $IAMF_TOOL, or the one that the launcher builds. Status 6 needs some 2 GB of memory, and is shown with --large
@@ -53,6 +53,13 @@ judge "0: the sample is accepted" $? 0 '' "$work/report"
 "$tool" canon <"$sample" >"$work/out" 2>"$work/notes"
 judge "0: the sample is canonical" $? 0 '' "$sample"
 
+"$tool" mux <"$sample" 2>"$work/notes" | "$tool" demux >"$work/out" 2>>"$work/notes"
+judge "0: what the MP4 file of the sample holds is the sample" $? 0 '' "$sample"
+
+# Its first bytes are no size of a box in it.
+"$tool" demux <"$sample" >"$work/out" 2>"$work/notes"
+judge "1: the sample is no MP4 file" $? 1 'refused 0 70' "$work/nothing"
+
 # Two channels of 8 samples, as they stand at the end of the sample.
 {
     printf 'RIFF\134\000\000\000WAVEfmt \050\000\000\000\376\377\002\000\200\273\000\000\000\356\002\000\004\000\020\000\026\000\020\000\003\000\000\000'
@@ -84,7 +91,8 @@ printf '%s\n' 'profile 0 0' 'codec 0 ipcm 8 48000 16' 'element 1 scalable 1 2' '
 "$tool" check <"$work/tagged" >"$work/out" 2>"$work/notes"
 judge "0: tags are reported once, and not of a redundant copy" $? 0 '' "$work/tagged_report"
 
-for command in check canon; do
+for command in check canon mux "play 2 stereo"; do
+    # shellcheck disable=SC2086
     head -c 68 "$sample" | "$tool" $command >"$work/out" 2>"$work/notes"
     judge "1: $command: a sample without its frame is refused at its end" $? 1 'refused 68 39' "$work/nothing"
 done
@@ -100,12 +108,17 @@ judge "2: a word that is no command" $? 2 'usage: iamf_tool COMMAND < INPUT > OU
 (ulimit -v 300000 && head -c 400000000 /dev/zero | "$tool" list) >"$work/out" 2>"$work/notes"
 judge "3: more input than memory" $? 3 'out of memory' "$work/nothing"
 
-for command in list check canon; do
+"$tool" mux <"$sample" >"$work/file.mp4"
+for command in list check canon mux demux "play 2 stereo"; do
+    # shellcheck disable=SC2086
     "$tool" $command <"$work" >"$work/out" 2>"$work/notes"
     judge "4: $command: a folder cannot be read" $? 4 'read failed' "$work/nothing"
 
+    input=$sample
+    [ "$command" = demux ] && input=$work/file.mp4
     : >"$work/out"
-    "$tool" $command <"$sample" >/dev/full 2>"$work/notes"
+    # shellcheck disable=SC2086
+    "$tool" $command <"$input" >/dev/full 2>"$work/notes"
     judge "5: $command: a full device takes no byte" $? 5 'write failed' "$work/nothing"
 done
 

@@ -1,6 +1,6 @@
 -- How many bytes the bare sequence of a file has at most.
 use Rattle.std.proofs.Common.{◌≡◌, ℕ, ◌+◌, ◌-◌, ◌*◌, ◌≤◌, ◌<◌, ◌^◌, Bool, true, false, cond, List, [], ◌∷◌, ◌++◌, length, take, drop, map, Some, None, Ok, Err, Result, refl, sym, ap, ◌∙◌, length-append, arith}
-use Rattle.std.specs.Prelude.{sum, nat_lt, nat_le, not, ◌==◌, slice_index}
+use Rattle.std.specs.Prelude.{nat_lt, nat_le, not, ◌==◌, slice_index}
 use Rattle.std.specs.List.{flat_map}
 use Rattle.std.proofs.lemmas.List.{length-take}
 use Rattle.std.proofs.lemmas.Bool.{ltb-true, leb-true}
@@ -9,7 +9,6 @@ use Rattle.spec_bits.specs.declared.FieldFault.TheVariants.{Leb, Short}
 use Rattle.spec_bits.specs.ByteReading.{leb_at, groups_at, bytes_at, ◌>>=◌}
 use Rattle.spec_boxes.specs.declared.fault.BoxFault.{BoxFault}
 use Rattle.spec_boxes.specs.declared.fault.BoxFault.TheVariants.{Config, Chunk}
-use Rattle.spec_boxes.specs.declared.fault.BoxRefusal.{BoxRefusal}
 use Rattle.spec_boxes.specs.Boxes.{Box, refuse}
 use Rattle.spec_boxes.specs.Tables.{payload}
 use Rattle.spec_boxes.specs.ObuLists.{are_obus, in_config}
@@ -17,7 +16,7 @@ use Rattle.spec_boxes.specs.Configuration.{sized_config, config_size, config_in}
 use Rattle.spec_boxes.specs.Spans.{Span, in_file}
 use Rattle.spec_boxes.specs.Tracks.{sample_bytes, spans_of}
 use Rattle.spec_boxes.specs.Paths.{Way}
-use Rattle.spec_boxes.specs.Rules.{Test, test, first_of, iacb, config_of, bytes_in, chunk_rules, sample_rules, config_rules, roll_rules, edit_rules, count_rules, description_rules, version_rules, table_rules, tables_among, rules_on, tables_on, top_rules, way_rules, rules, way, track}
+use Rattle.spec_boxes.specs.Rules.{Test, test, first_of, iacb, config_of, bytes_in, sample_rules, config_rules, roll_rules, edit_rules, count_rules, description_rules, version_rules, table_rules, tables_among, rules_on, tables_on, top_rules, way_rules, rules, way, track}
 use Rattle.spec_boxes.specs.Laws.{Holds}
 use Rattle.spec_boxes.proofs.Rows.{sum-cons}
 use Rattle.spec_files.specs.Body.{marked, rebuilt}

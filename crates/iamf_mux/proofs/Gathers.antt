@@ -1,10 +1,9 @@
 -- What is gathered of the OBUs of a sequence is its body.
-use Rattle.std.proofs.Common.{◌≡◌, ◌⊎◌, ℕ, ◌+◌, ◌≤◌, ◌<◌, ◌^◌, Bool, true, false, cond, eqb, List, [], ◌∷◌, ◌++◌, length, get_or, set, map, refl, sym, ap, ap₂, ◌∙◌, inl, inr, subst, append_assoc, append-nil, length-append, eq-eqb, ne_eqb, arith}
+use Rattle.std.proofs.Common.{◌≡◌, ◌⊎◌, ℕ, ◌+◌, Bool, true, false, cond, List, [], ◌∷◌, ◌++◌, length, get_or, set, map, refl, sym, ap, ap₂, ◌∙◌, inl, inr, subst, append_assoc, append-nil, length-append, eq-eqb, ne_eqb, arith}
 use Rattle.std.specs.Prelude.{Option, Some, None, sum, IfSome, if◌then◌else◌}
 use Rattle.std.specs.List.{flat_map}
 use Rattle.std.proofs.lemmas.List.{map-append, length-map, set_at, get_or_at}
 use Rattle.spec_obu.specs.Kinds.{obu_type_of}
-use Rattle.spec_rules.specs.Role.{Role}
 use Rattle.spec_rules.specs.Units.{is_data, unit_after}
 use Rattle.spec_rules.proofs.Basics.{flat_map-push}
 use Rattle.spec_boxes.proofs.Rows.{sum-cons}
@@ -12,10 +11,9 @@ use Rattle.spec_boxes.specs.ObuLists.{delimits}
 use Rattle.spec_files.specs.Body.{is_descriptor}
 use Rattle.spec_bodies.specs.Spelled.{Spelled, obu_of, role_of, roles_of}
 use Rattle.spec_bodies.specs.SequenceBody.{units, descriptors}
-use Rattle.spec_bodies.proofs.OneMore.{descriptors-push, size, size-push, GrowsLast}
-use Rattle.spec_bodies.proofs.Rebuilding.{Rebuilds, IsSpelled}
+use Rattle.spec_bodies.proofs.OneMore.{descriptors-push, size, GrowsLast}
 use Rattle.spec_bodies.proofs.Growing.{Adds, Quiet, Marks, Begins, Grows}
-use Rattle.iamf_mux.specs.Gathering.{Slices, IsGathered, with_unit, with_data, with_descriptor, with_obu, no_slices}
+use Rattle.iamf_mux.specs.Gathering.{Slices, IsGathered, with_unit, with_descriptor, with_obu}
 
 abbrev flat : List (List ℕ) → List ℕ
 flat us = flat_map (λ (u : List ℕ). u) us

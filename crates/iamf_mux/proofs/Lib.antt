@@ -1,5 +1,6 @@
+pub mod FirstFrames
+pub mod ToldNumbers
 pub mod Gathers
-pub mod ObuBytes
 pub mod OneObu
 pub mod Runs
 pub mod FedTracks

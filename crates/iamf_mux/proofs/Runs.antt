@@ -1,9 +1,7 @@
 -- Slices that lie end to end are one.
 use Rattle.std.proofs.Common.{◌≡◌, ℕ, zero, suc, ◌+◌, ◌-◌, ◌≤◌, List, [], ◌∷◌, ◌++◌, take, drop, refl, sym, ap, ap₂, ◌∙◌, append_assoc, append-nil, arith}
 use Rattle.std.specs.Prelude.{slice_range}
-use Rattle.std.specs.Borrow.{Bor}
 use Rattle.std.proofs.lemmas.List.{drop-drop}
-use Rattle.mp4_file.specs.Slices.{joined}
 use Rattle.iamf_mux.specs.Gathering.{Slices, with_bytes}
 
 take-none : (n : ℕ) → take {A = ℕ} n [] ≡ []
@@ -31,7 +29,7 @@ all_closed xs b s e is = ap (λ (t : List ℕ). xs ++ t) (nothing b s e is) ∙ 
 
 -- ---- more bytes of the units
 
-abbrev slices : List ℕ → List ℕ → List ℕ → Slices
+abbrev pub slices : List ℕ → List ℕ → List ℕ → Slices
 slices d u ns = record { descriptors = d; units = u; unit_lengths = ns }
 
 -- the last slice is longer

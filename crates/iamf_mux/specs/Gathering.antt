@@ -1,12 +1,11 @@
 -- What is gathered of a sequence for its file, OBU by OBU.
-use Rattle.std.specs.Prelude.{◌≡◌, ℕ, ◌+◌, ◌≤◌, ◌==◌, Bool, not, ◌&&◌, if◌then◌else◌, List, [], ◌∷◌, ◌++◌, length, map, take, slice_index, slice_range, slice_set, Option, Some, None}
+use Rattle.std.specs.Prelude.{◌≡◌, ℕ, ◌+◌, ◌≤◌, ◌==◌, not, ◌&&◌, if◌then◌else◌, List, [], ◌∷◌, ◌++◌, length, map, slice_index, slice_range, slice_set, Option, Some, None}
 use Rattle.spec_obu.specs.Kinds.{obu_type_of, is_descriptor}
 use Rattle.spec_obu.specs.Header.{Head}
 use Rattle.spec_boxes.specs.ObuLists.{delimits}
 use Rattle.std.specs.List.{flat_map}
-use Rattle.spec_bodies.specs.Spelled.{Spelled, entries_of, bytes_of, AreSequence}
+use Rattle.spec_bodies.specs.Spelled.{Spelled}
 use Rattle.spec_bodies.specs.SequenceBody.{units, descriptors}
-use Rattle.iamf_sequence.specs.SequenceValue.{SequenceValue}
 use Rattle.mp4_file.specs.Slices.{joined}
 use Rattle.iamf_mux.specs.declared.gathered.Gathered.{Gathered}
 use Rattle.iamf_mux.specs.Ranges.{AreRanges, parts}
@@ -55,27 +54,8 @@ with_obu h None bytes s = if not h.redundant && is_descriptor (obu_type_of h.kin
 abbrev pub AreSliced : Gathered → ℕ → Type 0
 AreSliced g place = AreRanges g.bytes.now 0 (parts g.units.items) g.start × (g.end ≤ place)
 
--- These are the OBUs of a sequence.
-pub record AreObusOf (v : SequenceValue) (os : List Spelled) : Type 0 where
-  pub bytes_are : v.bytes ≡ bytes_of os
-  pub entries_are : entries_of os ≡ v.entries
-  pub are : AreSequence os
-
 -- What is gathered is the body of these OBUs.
 pub record IsGathered (s : Slices) (os : List Spelled) : Type 0 where
   pub descriptors_are : s.descriptors ≡ descriptors os
   pub units_are : s.units ≡ flat_map (λ (u : List ℕ). u) (units os)
   pub lengths_are : s.unit_lengths ≡ map length (units os)
-
--- What is gathered of the bytes of a sequence is the body of its first so many OBUs, or of all of them.
-pub record IsGatheredUpTo (v : SequenceValue) (i : ℕ) (g : Gathered) : Type 0 where
-  pub same : g.bytes.now ≡ v.bytes
-  pub obus : List Spelled
-  pub are : AreObusOf v obus
-  pub gathered : IsGathered (slices_of g) (take i obus)
-  pub sliced : AreSliced g (length (bytes_of (take i obus)))
-
-pub record IsGatheredOf (v : SequenceValue) (s : Slices) : Type 0 where
-  pub obus : List Spelled
-  pub are : AreObusOf v obus
-  pub gathered : IsGathered s obus

@@ -1,5 +1,9 @@
 pub mod Ranges
 pub mod Gathering
 pub mod Rates
+pub mod Trims
+pub mod NumbersView
+pub mod DraftView
+pub mod BodyView
 pub mod Demuxing
 pub mod FileOf

@@ -118,7 +118,7 @@ impl<'a> Gathered<'a> {
     pub fn add(
         &mut self,
         head: &ObuHead<'_>,
-        unit: Option<usize>,
+        unit: Option<u64>,
         at: usize,
         end: usize,
     ) -> Result<(), AllocError>
@@ -133,6 +133,7 @@ impl<'a> Gathered<'a> {
     {
         match unit {
             Some(unit) => {
+                let unit = unit as usize;
                 self.begin(unit)?;
                 if head.obu_type() != ObuType::TemporalDelimiter {
                     self.put_data(unit, at, end)?;

@@ -1,7 +1,7 @@
 //! Sequences written into files and read out of them.
 
 use crate::{DemuxError, demux, file_parts, mux};
-use iamf_sequence::decode;
+use iamf_sequence::{DecodeError, decode};
 use mp4_boxes::read_box;
 use std::alloc::{AllocError, Global};
 use std::process::Abort;
@@ -87,13 +87,29 @@ fn what_is_written_is_read(rt: HostRuntime) -> Result<(), Fail> {
 fn what_lies_end_to_end_is_one_part_of_a_file(rt: HostRuntime) -> Result<(), Fail> {
     let bytes = joined(rt.alloc(), &[DESCRIPTORS, LATE, FRAME, COPY, FRAME])?;
     assert!(rt; bytes.len() <= 1 << 30);
-    let sequence = decode(rt.alloc(), &bytes)?;
-    let parts = file_parts(rt.alloc(), &sequence)?;
+    let parts = file_parts(rt.alloc(), &bytes)?;
     assert_eq!(rt; parts.units.len(), 2);
     let data = joined(rt.alloc(), &parts.units)?;
     assert_eq!(rt; data, joined(rt.alloc(), &[LATE, FRAME, FRAME])?);
     let file = joined(rt.alloc(), &[&parts.front, &data])?;
-    assert_eq!(rt; file, mux(rt.alloc(), &sequence)?);
+    assert_eq!(rt; file, mux(rt.alloc(), &decode(rt.alloc(), &bytes)?)?);
+    Ok(())
+}
+
+#[test]
+fn bytes_that_are_no_sequence_give_no_file(rt: HostRuntime) -> Result<(), Fail> {
+    let mut bytes = joined(rt.alloc(), &[DESCRIPTORS, DELIMITER, FRAME])?;
+    assert_eq!(rt; bytes.len(), 102);
+    // The frame is of a substream that no element has.
+    bytes[68] = b'8';
+    match file_parts(rt.alloc(), &bytes) {
+        Err(DecodeError::Refused(refusal)) => assert_eq!(rt;
+            (refusal.at, refusal.code()),
+            (68, 38)
+        ),
+        Err(DecodeError::Memory(error)) => return Err(Fail::from(error)),
+        Ok(_) => assert!(rt; false, "a file"),
+    }
     Ok(())
 }
 

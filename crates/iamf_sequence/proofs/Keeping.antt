@@ -1,5 +1,5 @@
 -- What is kept of what OBUs say, with one more OBU.
-use Rattle.std.proofs.Common.{Box, Vec, Global, ◌≡◌, ℕ, ◌+◌, ◌≤◌, Bool, true, false, List, [], ◌∷◌, ◌++◌, map, refl, sym, ap, subst, ◌∙◌, inl, inr, append-nil}
+use Rattle.std.proofs.Common.{Box, Vec, Global, ◌≡◌, ℕ, Bool, true, false, List, [], ◌∷◌, ◌++◌, map, refl, sym, ap, subst, ◌∙◌, inl, inr, append-nil}
 use Rattle.std.specs.Prelude.{Option, Some, None, unwrap_or, Result, Ok, Err, OnOk, if◌then◌else◌}
 use Rattle.std.specs.Borrow.{Bor}
 use Rattle.std.specs.List.{flat_map, All}
@@ -20,7 +20,7 @@ use Rattle.spec_rules.specs.Role.{Role}
 use Rattle.spec_rules.specs.Role as roles
 use Rattle.spec_rules.specs.declared.codec_role.CodecRole.{CodecRole}
 use Rattle.spec_rules.specs.Descriptors.{profiles, codecs}
-use Rattle.spec_rules.specs.Units.{is_data, placed, unit_after, unit_count}
+use Rattle.spec_rules.specs.Units.{is_data, placed, unit_count}
 use Rattle.spec_rules.specs.Rules.{fault_before, fault_after}
 use Rattle.spec_rules.specs.Admitted.{IsAdmitted, HasNoFault, type_of_role}
 use Rattle.spec_rules.proofs.Basics.{flat_map-push, none_of, unmapped}
@@ -28,7 +28,7 @@ use Rattle.spec_rules.proofs.NoFault.{header_before, codec_none}
 use Rattle.spec_sequence.specs.ValueRole.{trim_of, role_of_codec, role}
 use Rattle.spec_sequence.specs.Reading as reading
 use Rattle.spec_sequence.specs.Reading.{Entry, values_of}
-use Rattle.spec_sequence.specs.Parts.{roles_of, header_in, codec_in, element_in, mix_in, frame_of, block_of, sequence_headers, codec_configs, UnitValue, temporal_units}
+use Rattle.spec_sequence.specs.Parts.{header_in, codec_in, element_in, mix_in, frame_of, block_of, sequence_headers, codec_configs, UnitValue, temporal_units}
 use Rattle.spec_sequence.proofs.RedundantCopies.{plain_of}
 use Rattle.spec_sequence.proofs.Roles.{roles_of_values}
 use Rattle.spec_sequence.proofs.RolesOfParts.{profiles_are, codecs_are}
@@ -57,8 +57,7 @@ use Rattle.iamf_sequence.specs.UnitView.{view_frame, view_block_value, view_unit
 use Rattle.iamf_sequence.specs.Tails.{with_tail, with_tails}
 use Rattle.iamf_sequence.specs.ContentsView.{AreHeaders, AreCodecs, element_and_tail, mix_and_tail, IsElement, HasNoLater, AreContents, AddsTo}
 use Rattle.iamf_sequence.proofs.WithTails.{no_header, no_codec}
-use Rattle.iamf_sequence.proofs.UnitBounds.{last_or_next}
-use Rattle.iamf_sequence.proofs.Parting.{units-quiet, units-here, with_obu, later-none, later-quiet, later-here}
+use Rattle.iamf_sequence.proofs.Parting.{units-quiet, with_obu, later-none, later-quiet, put_into}
 
 -- ---- what one OBU says, in lists, with its tail
 
@@ -267,18 +266,11 @@ units_with : (k : Contents) (us : List temporal.Unit) (past : List Entry) (o : O
     → IsAdmitted (reading.roles past) → HasNoFault (reading.roles past) (role o) → AddsTo unit (reading.roles past) (role o) → AreContents k (values_of past)
     → map view_unit us ≡ change_last change (opened unit (map view_unit k.units.items)) → (All IsConsistent k.units.items → All IsConsistent us) → AreUnitsKept us (values_of past ++ o ∷ [])
 units_with k us past o unit change is_change data_obu admitted none adds keeps is consistent =
-    let s = values_of past in
-    let l = reading.roles past in
-    let same : roles_of s ≡ l = roles_of_values past in
-    let bounds = last_or_next l (role o) admitted none.late in
-    let number : unit ≡ unit_after (roles_of s) (role o) = adds data_obu ∙ ap (λ (r : List Role). unit_after r (role o)) (sym same) in
-    let low : unit ≤ unit_count (roles_of s) = subst (λ (r : List Role). unit ≤ unit_count r) (sym same) (subst (λ n. n ≤ unit_count l) (sym (adds data_obu)) bounds.low) in
-    let high : unit_count (roles_of s) ≤ unit + 1 = subst (λ (r : List Role). unit_count r ≤ unit + 1) (sym same) (subst (λ n. unit_count l ≤ n + 1) (sym (adds data_obu)) bounds.high) in
+    let put = put_into past o unit data_obu admitted none adds keeps.later in
     record {
-      units = is ∙ change_last-same change (with_obu o) is_change (opened unit (map view_unit k.units.items)) ∙ ap (λ (vs : List UnitValue). change_last (with_obu o) (opened unit vs)) keeps.units
-          ∙ sym (units-here unit s o data_obu number low high keeps.later);
+      units = is ∙ change_last-same change (with_obu o) is_change (opened unit (map view_unit k.units.items)) ∙ ap (λ (vs : List UnitValue). change_last (with_obu o) (opened unit vs)) keeps.units ∙ sym put.units;
       consistent = consistent keeps.consistent;
-      later = later-here unit s o data_obu number high keeps.later;
+      later = put.later;
     }
 
 trims_are : (t : Option Trim) → trim_of t ≡ trim_or_none t

@@ -1,5 +1,5 @@
 -- What one more OBU at the end changes in the units of a sequence.
-use Rattle.std.proofs.Common.{◌≡◌, ◌⊎◌, ℕ, zero, suc, ◌+◌, ◌≤◌, ◌<◌, Bool, true, false, ◌&&◌, cond, ltb, List, [], ◌∷◌, ◌++◌, map, refl, sym, ap, ◌∙◌, inl, inr, append_assoc, append-nil, add-one, eq-eqb, ne_eqb, le-ltb, arith}
+use Rattle.std.proofs.Common.{◌≡◌, ◌⊎◌, ℕ, zero, suc, ◌+◌, ◌≤◌, ◌<◌, Bool, true, false, ◌&&◌, cond, ltb, List, [], ◌∷◌, ◌++◌, map, refl, sym, ap, subst, ◌∙◌, inl, inr, append_assoc, append-nil, add-one, eq-eqb, ne_eqb, le-ltb, arith}
 use Rattle.std.specs.Prelude.{if◌then◌else◌, ◌==◌}
 use Rattle.std.specs.List.{flat_map}
 use Rattle.std.proofs.lemmas.Bool.{cases_lt}
@@ -9,12 +9,15 @@ use Rattle.spec_values.specs.Value.{ObuValue}
 use Rattle.spec_rules.specs.Role.{Role}
 use Rattle.spec_sequence.specs.ValueRole.{role}
 use Rattle.spec_rules.specs.Units.{is_data, unit_after, unit_count}
+use Rattle.spec_rules.specs.Admitted.{IsAdmitted, HasNoFault}
+use Rattle.spec_sequence.specs.Reading.{Entry, values_of, roles}
 use Rattle.spec_sequence.specs.Parts.{roles_of, frame_of, block_of, numbered_after, if_of_unit, obus_of, UnitValue, unit_value, units_up_to, temporal_units}
 use Rattle.spec_rules.proofs.Placing.{unit_count-push}
-use Rattle.spec_sequence.proofs.Roles.{roles_of_more}
+use Rattle.spec_sequence.proofs.Roles.{roles_of_more, roles_of_values}
 use Rattle.spec_sequence.proofs.FramesOfUnits.{length-units_up_to}
 use Rattle.iamf_sequence.specs.UnitView.{opened, change_last}
-use Rattle.iamf_sequence.specs.ContentsView.{HasNoLater}
+use Rattle.iamf_sequence.specs.ContentsView.{HasNoLater, AddsTo}
+use Rattle.iamf_sequence.proofs.UnitBounds.{last_or_next}
 
 -- ---- the OBUs of a unit
 
@@ -136,3 +139,21 @@ later-here u s o data_obu number high later v above = obus_of-other u v s o numb
 
     apart : u ≡ v → ⊥
     apart e = omega (arith, next)
+
+-- ---- a data OBU that comes after an admitted list, in the unit of this number
+
+pub record IsPutInto (unit : ℕ) (s : List ObuValue) (o : ObuValue) : Type 0 where
+  pub units : temporal_units (s ++ o ∷ []) ≡ change_last (with_obu o) (opened unit (temporal_units s))
+  pub later : HasNoLater (s ++ o ∷ [])
+
+pub put_into : (past : List Entry) (o : ObuValue) (unit : ℕ) → is_data (role o) ≡ true → IsAdmitted (roles past) → HasNoFault (roles past) (role o) → AddsTo unit (roles past) (role o) → HasNoLater (values_of past)
+    → IsPutInto unit (values_of past) o
+put_into past o unit data_obu admitted none adds later =
+    let s = values_of past in
+    let l = roles past in
+    let same : roles_of s ≡ l = roles_of_values past in
+    let bounds = last_or_next l (role o) admitted none.late in
+    let number : unit ≡ unit_after (roles_of s) (role o) = adds data_obu ∙ ap (λ (r : List Role). unit_after r (role o)) (sym same) in
+    let low : unit ≤ unit_count (roles_of s) = subst (λ (r : List Role). unit ≤ unit_count r) (sym same) (subst (λ n. n ≤ unit_count l) (sym (adds data_obu)) bounds.low) in
+    let high : unit_count (roles_of s) ≤ unit + 1 = subst (λ (r : List Role). unit_count r ≤ unit + 1) (sym same) (subst (λ n. unit_count l ≤ n + 1) (sym (adds data_obu)) bounds.high) in
+    record { units = units-here unit s o data_obu number low high later; later = later-here unit s o data_obu number high later }

@@ -16,7 +16,7 @@ use crate::reading::Reading;
 use crate::refusal::DecodeError;
 use crate::sequence::Sequence;
 use crate::unit::Unit;
-use crate::walk::walk;
+use crate::walking::walk;
 use iamf_admission::Admission;
 use std::alloc::{AllocError, Global};
 

@@ -4,7 +4,7 @@ ghost use Rattle.std.specs.Prelude.{List, ℕ, []};
 
 use crate::contents::Contents;
 use crate::parts::Placed;
-use crate::walk::Gather;
+use crate::walking::Gather;
 use iamf_admission::{Admission, Admitted};
 use obu_header::ObuView;
 use std::alloc::{AllocError, Global};

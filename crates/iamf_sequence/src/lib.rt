@@ -14,7 +14,7 @@ mod sequence;
 mod spelling;
 mod summarizing;
 mod unit;
-mod walk;
+mod walking;
 
 pub use decoding::decode;
 pub use encoding::{encode, encode_obu};
@@ -27,3 +27,4 @@ pub use sequence::Sequence;
 pub use spec_values::Fault;
 pub use summarizing::{summarize, summary};
 pub use unit::Unit;
+pub use walking::{Gather, walk};

@@ -41,7 +41,7 @@ pub enum DecodeError {
 
 impl DecodeError {
     /// That memory ran out, where nothing is wrong with the bytes.
-    pub(crate) fn memory(self) -> AllocError
+    pub fn memory(self) -> AllocError
         requires { IsMemory self }
     {
         match self {

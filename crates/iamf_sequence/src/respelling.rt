@@ -9,7 +9,7 @@ ghost use Rattle.iamf_sequence.specs.Places.{IsRefused};
 use crate::pieces::{CanonicalParts, Part};
 use crate::refusal::DecodeError;
 use crate::spelling::respelled;
-use crate::walk::{Gather, walk};
+use crate::walking::{Gather, walk};
 use iamf_admission::{Admission, Admitted};
 use obu_header::ObuView;
 use std::alloc::{AllocError, Global};

@@ -8,7 +8,7 @@ ghost use Rattle.iamf_sequence.specs.Places.{IsRefused};
 
 use crate::refusal::{DecodeError, not_taken};
 use crate::sequence::Sequence;
-use crate::walk::{Gather, walk};
+use crate::walking::{Gather, walk};
 use iamf_admission::{Admission, Admitted};
 use iamf_report::Summary;
 use obu_header::ObuView;

@@ -4,7 +4,7 @@ ghost use Rattle.iamf_tool.specs.declared.command.Command.TheVariants as given;
 ghost use Rattle.iamf_tool.specs.declared.command.Conversion.TheVariants as conversion;
 ghost use Rattle.spec_values.specs.Value.{ObuValue};
 ghost use Rattle.spec_sequence.specs.Reading.{Reads};
-ghost use Rattle.spec_bodies.specs.SequenceFile.{IsBareOf};
+ghost use Rattle.spec_bodies.specs.SequenceFile.{IsBareOf, IsFileOf};
 ghost use Rattle.iamf_mux.specs.Demuxing.{bare, IsNoBare};
 ghost use Rattle.iamf_mux.specs.FileOf.{file_of};
 ghost use Rattle.iamf_tool.specs.Outcome.{DemuxGives};
@@ -19,7 +19,6 @@ use crate::status::Status;
 use bytes::BytesMut;
 use iamf_io::{Failed, Sink};
 use iamf_mux::{DemuxError, FileParts, file_parts, sequence_track};
-use iamf_sequence::{Sequence, decode};
 use mp4_boxes::Track;
 use std::alloc::{AllocError, Global};
 
@@ -42,26 +41,21 @@ fn write_parts<W: Sink>(
     }
 }
 
-// Writes the MP4 file of the sequence.
-fn mux_sequence<W: Sink, N: Sink>(
+// Writes the MP4 file of a sequence.
+fn write_file<W: Sink, N: Sink>(
     alloc: Global,
-    sequence: &Sequence<'_>,
+    parts: &FileParts<'_>,
     out: &mut W,
     notes: &mut N,
 ) -> Status
-    requires { length sequence.now.bytes ≤ 2 ^ 30 }
-    ensures { Concludes result (given.Convert conversion.Mux) sequence.now.bytes
+    ensures { (b : List ℕ) → IsFileOf b (file_of parts.now) → Concludes result (given.Convert conversion.Mux) b
         (side W.held W.faults out.old out.new) (side N.held N.faults notes.old notes.new) }
 {
-    let parts = match file_parts(alloc, sequence) {
-        Ok(parts) => parts,
-        Err(_) => return ended(Status::Memory, notes),
-    };
     let mut waiting = match BytesMut::with_capacity(alloc, ROOM) {
         Ok(waiting) => waiting,
         Err(_) => return ended(Status::Memory, notes),
     };
-    match write_parts(&mut waiting, &parts, out) {
+    match write_parts(&mut waiting, parts, out) {
         Ok(()) => Status::Done,
         Err(_) => ended(Status::WriteFault, notes),
     }
@@ -73,8 +67,8 @@ pub fn mux<W: Sink, N: Sink>(alloc: Global, bytes: &[u8], out: &mut W, notes: &m
     ensures { Concludes result (given.Convert conversion.Mux) bytes.now
         (side W.held W.faults out.old out.new) (side N.held N.faults notes.old notes.new) }
 {
-    match decode(alloc, bytes) {
-        Ok(sequence) => mux_sequence(alloc, &sequence, out, notes),
+    match file_parts(alloc, bytes) {
+        Ok(parts) => write_file(alloc, &parts, out, notes),
         Err(error) => conclude(alloc, answer_to(error), out, notes),
     }
 }

@@ -73,7 +73,7 @@ passes ps o s plain h = record {
   late = subst (λ (l : List Role). fault_after l (role_of o) ≡ None) (sym (roles_are ps)) h.late;
 }
 
-admitted_more : (past os : List Spelled) (o : Spelled) → AdmittedAfter past os → Spells (context_after (entries_of (past ++ os))) o.value o.payload o.bytes → IsAdmissible (entries_of (past ++ os)) (entry_of o) → AdmittedAfter past (os ++ o ∷ [])
+pub admitted_more : (past os : List Spelled) (o : Spelled) → AdmittedAfter past os → Spells (context_after (entries_of (past ++ os))) o.value o.payload o.bytes → IsAdmissible (entries_of (past ++ os)) (entry_of o) → AdmittedAfter past (os ++ o ∷ [])
 admitted_more past [] o h s a = (subst (λ (p : List Spelled). Spells (context_after (entries_of p)) o.value o.payload o.bytes) (append-nil past) s, subst (λ (p : List Spelled). IsAdmissible (entries_of p) (entry_of o)) (append-nil past) a, tt)
 admitted_more past (x ∷ xs) o h s a = (
   h.0,

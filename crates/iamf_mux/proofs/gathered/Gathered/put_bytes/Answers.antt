@@ -1,4 +1,4 @@
-use Rattle.std.proofs.Common.{◌+◌, ◌≤◌, List, ℕ, sym, subst, arith}
+use Rattle.std.proofs.Common.{◌+◌, arith}
 use Rattle.mp4_file.specs.Slices.{joined}
 use Rattle.iamf_mux.specs.Gathering.{slices_of}
 use Rattle.iamf_mux.specs.Ranges.{parts}

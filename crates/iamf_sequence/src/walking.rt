@@ -12,12 +12,13 @@ use obu_header::{ObuView, read_obu};
 use spec_values::Fault;
 use std::alloc::{AllocError, Global};
 
-/// What is made of the OBUs of a sequence, as they are admitted.
-pub(crate) trait Gather<'a> {
+/// What is made of the OBUs of a sequence, as `walk` admits them: it keeps of each what it needs, and the walk keeps none.
+pub trait Gather<'a> {
     // It is made of these OBUs, of which the bytes up to a place are spellings.
     ghost stands: { Self → List ℕ → ℕ → List Entry → Type 0 };
 
-    /// Takes the next OBU in; `admission` admitted it. An `Err` comes only where memory runs out, and then nothing is known.
+    /// Takes the next OBU in: where it stands in the bytes, and what was read of it. `admission` admitted it after those before
+    /// it, and stands for all of them. An `Err` comes only where memory runs out, and then nothing is known.
     fn take(
         &mut self,
         alloc: Global,
@@ -30,13 +31,13 @@ pub(crate) trait Gather<'a> {
             → stands self.new bytes view.now.end (l ++ e ∷ [])) };
 }
 
-/// Reads the bytes, of which there are at most 2^40, as a sequence, and lets `gather` take its OBUs in, one after the other.
-/// Answers the admission that admitted them.
+/// Reads the bytes, of which there are at most 2^40, as a sequence, and lets `gather`, which has taken in no OBU, take its
+/// OBUs in, one after the other. Answers the admission that admitted them.
 ///
 /// # Errors
 /// `Refused` exactly where the bytes are no sequence, with the first fault and the place of its OBU, or the number of the
 /// bytes where it is a fault of their end. `Memory` only where memory runs out.
-pub(crate) fn walk<'a, G: Gather<'a>>(
+pub fn walk<'a, G: Gather<'a>>(
     alloc: Global,
     buffer: &'a [u8],
     gather: &mut G,

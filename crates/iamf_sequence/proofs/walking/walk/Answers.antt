@@ -7,7 +7,7 @@ use Rattle.iamf_sequence.specs.Places.{IsRefused}
 use Rattle.iamf_sequence.specs.Walking.{IsAtPlace, IsOneMore}
 use Rattle.iamf_sequence.proofs.AdmittedRoles.{roles_admitted}
 use Rattle.iamf_sequence.proofs.Advancing.{admitted_more, header_refused, not_taken_refused, end_refused}
-use Rattle.iamf_sequence.proofs.walk.walk.Goals as goal
+use Rattle.iamf_sequence.proofs.walking.walk.Goals as goal
 
 pub loop-at-init : goal.loop-at-init
 loop-at-init g c = record {

@@ -1,7 +1,7 @@
 use Rattle.std.proofs.Common.{length, take, List, ◌-◌, ◌≤◌}
 use Rattle.spec_sequence.specs.Reading.{Entry, Admitted}
 use Rattle.iamf_admission.specs.AdmissionView.{Stands}
-use Rattle.iamf_sequence.proofs.walk.walk.Given as goal
+use Rattle.iamf_sequence.proofs.walking.walk.Given as goal
 
 abbrev pub invariant-loop-at : goal.invariant-loop-at
 invariant-loop-at g l = record {

@@ -1,7 +1,10 @@
+ghost use Rattle.std.specs.Prelude.{◌≤◌, IfOk};
+
 use super::*;
-use std::fs;
+use std::io::{Read, Write};
 use std::rt::Files;
 use std::test::Fail;
+use std::{fs, io};
 
 const DIGITS: &[u8] = b"0123456789";
 
@@ -82,5 +85,70 @@ fn writes_and_flushes_are_numbered_together(rt: HostRuntime) -> Result<(), Fail>
     assert!(rt; sink.flush().is_err());
     sink.flush()?;
     assert_eq!(rt; sink.bytes(), DIGITS);
+    Ok(())
+}
+
+/// A stream of which each call takes or gives so many bytes, in turn, and fails where there is no number.
+#[derive(Drop)]
+struct Stream {
+    answers: [Option<usize>; 4],
+    calls: usize,
+}
+
+impl Stream {
+    fn new(answers: [Option<usize>; 4]) -> Stream {
+        Stream { answers, calls: 0 }
+    }
+
+    fn answer(&mut self, most: usize) -> io::Result<usize>
+        ensures { IfOk result (λ n. n ≤ most) }
+    {
+        let answer = match self.answers.get(self.calls) {
+            Some(Some(count)) => Ok(most.min(*count)),
+            _ => Err(io::Error::from(io::ErrorKind::TimedOut)),
+        };
+        self.calls = self.calls.saturating_add(1);
+        answer
+    }
+}
+
+impl Read for Stream {
+    fn read(&mut self, buf: &mut [u8]) -> io::Result<usize> {
+        self.answer(buf.len())
+    }
+}
+
+impl Write for Stream {
+    fn write(&mut self, buf: &[u8]) -> io::Result<usize> {
+        self.answer(buf.len())
+    }
+
+    fn flush(&mut self) -> io::Result<()> {
+        match self.answer(0) {
+            Ok(_) => Ok(()),
+            Err(error) => Err(error),
+        }
+    }
+}
+
+#[test]
+fn each_read_asks_the_reader(rt: HostRuntime) -> Result<(), Fail> {
+    let mut source = StdSource::new(Stream::new([Some(3), None, Some(2), Some(0)]));
+    let mut into = [0; 8];
+    assert_eq!(rt; source.read(&mut into)?, 3);
+    assert!(rt; source.read(&mut into).is_err());
+    assert_eq!(rt; source.read(&mut into)?, 2);
+    assert_eq!(rt; source.read(&mut into)?, 0);
+    Ok(())
+}
+
+#[test]
+fn each_write_and_flush_asks_the_writer(rt: HostRuntime) -> Result<(), Fail> {
+    let mut sink = StdSink::new(Stream::new([Some(3), None, Some(0), Some(0)]));
+    assert_eq!(rt; sink.write(DIGITS)?, 3);
+    assert!(rt; sink.flush().is_err());
+    assert!(rt; sink.write(DIGITS).is_err());
+    sink.flush()?;
+    assert!(rt; sink.flush().is_err());
     Ok(())
 }

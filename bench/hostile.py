@@ -31,7 +31,7 @@ CASES = [
 
 
 def measure(folder, case, number):
-    """The costs of `check` and `canon`: seconds, and bytes an OBU above the input, of `canon` above its output too."""
+    """The costs of `check` and `canon`: seconds, and bytes an OBU above the input."""
     path = os.path.join(folder, "hostile.iamf")
     stream = case.write(path, number)
     expect_accepted(folder, path, stream)
@@ -39,7 +39,7 @@ def measure(folder, case, number):
     checking, writing = best_of([[PROGRAM, "check"], [PROGRAM, "canon"]], path)
     os.remove(path)
     return (Cost(checking.seconds, checking.cpu, (checking.peak - length) / stream.obus),
-            Cost(writing.seconds, writing.cpu, (writing.peak - 2 * length) / stream.obus))
+            Cost(writing.seconds, writing.cpu, (writing.peak - length) / stream.obus))
 
 
 def report(folder, quick):

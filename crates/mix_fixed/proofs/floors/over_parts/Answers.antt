@@ -27,12 +27,12 @@ parts k n r x q a b ka kb few least rest small fq close whole =
 
 pub overflow_mul-result : goal.overflow_mul-result
 overflow_mul-result c =
-    (parts c.args.times c.args.bottom c.split-whole.result.1 c.args.x c.split-whole.result.0 _ _ c.from.ensures refl c.requires.times c.requires.least c.split-whole.ensures.rest c.requires.small (search rules) c.split-whole.ensures.small c.split-whole.ensures.whole).0
+    (parts _ _ _ c.args.x _ _ _ c.from.ensures refl c.requires.times c.requires.least c.split-whole.ensures.rest c.requires.small (search rules) c.split-whole.ensures.small c.split-whole.ensures.whole).0
 
 pub overflow_add-result : goal.overflow_add-result
 overflow_add-result c =
-    (parts c.args.times c.args.bottom c.split-whole.result.1 c.args.x c.split-whole.result.0 _ _ c.from.ensures c.from-2.ensures c.requires.times c.requires.least c.split-whole.ensures.rest c.requires.small (search rules) c.split-whole.ensures.small c.split-whole.ensures.whole).1
+    (parts _ _ _ c.args.x _ _ _ c.from.ensures c.from-2.ensures c.requires.times c.requires.least c.split-whole.ensures.rest c.requires.small (search rules) c.split-whole.ensures.small c.split-whole.ensures.whole).1
 
 pub returns : goal.returns
 returns c =
-    (parts c.args.times c.args.bottom c.split-whole.result.1 c.args.x c.split-whole.result.0 _ _ c.from.ensures c.from-2.ensures c.requires.times c.requires.least c.split-whole.ensures.rest c.requires.small (search rules) c.split-whole.ensures.small c.split-whole.ensures.whole).2
+    (parts _ _ _ c.args.x _ _ _ c.from.ensures c.from-2.ensures c.requires.times c.requires.least c.split-whole.ensures.rest c.requires.small (search rules) c.split-whole.ensures.small c.split-whole.ensures.whole).2

@@ -25,7 +25,7 @@ between_fits a b n k h low high =
     ⊎_elim (λ over. let more : n * (2 ^ 64) ≤ n * ((a * (n - k) + b * k) / n) = mul-le-mul_left n over in absurd (omega arith)) (λ under. omega arith) (cases_lt (2 ^ 64 - 1) ((a * (n - k) + b * k) / n))
 
 -- subblock i of so many alike starts before the block's end
-pub starts_before : (d c i : ℕ) → 0 < c → i < (d + (c - 1)) / c → i * c < d
+starts_before : (d c i : ℕ) → 0 < c → i < (d + (c - 1)) / c → i * c < d
 starts_before d c i some h =
     let under : c * suc i ≤ c * ((d + (c - 1)) / c) = mul-le-mul_left c h in
     let whole : c * ((d + (c - 1)) / c) ≤ d + (c - 1) = omega arith in
@@ -49,12 +49,17 @@ alike fixed some =
 pub count_alike : (fixed : FixedFields) → fixed.constant_subblock_duration ≢ 0 → length (subblock_durations fixed) ≡ subblocks_in fixed.duration fixed.constant_subblock_duration
 count_alike fixed some = ap length (alike fixed some) ∙ length-map-range_with_len (λ k. min fixed.constant_subblock_duration (fixed.duration - k * fixed.constant_subblock_duration)) 0 (subblocks_in fixed.duration fixed.constant_subblock_duration)
 
+pub number_alike : (fixed : FixedFields) (i : ℕ) → fixed.constant_subblock_duration ≢ 0 → i < length (subblock_durations fixed) → i < subblocks_in fixed.duration fixed.constant_subblock_duration
+number_alike fixed i some h = let e = count_alike fixed some in omega arith
+
+pub starts_alike : (fixed : FixedFields) (i : ℕ) → fixed.constant_subblock_duration ≢ 0 → i < length (subblock_durations fixed) → i * fixed.constant_subblock_duration < fixed.duration
+starts_alike fixed i some h = starts_before fixed.duration fixed.constant_subblock_duration i (omega (arith, some)) (number_alike fixed i some h)
+
 pub duration_alike : (fixed : FixedFields) (i : ℕ) → fixed.constant_subblock_duration ≢ 0 → i < length (subblock_durations fixed)
     → get_or (subblock_durations fixed) i 0 ≡ min fixed.constant_subblock_duration (fixed.duration - i * fixed.constant_subblock_duration)
 duration_alike fixed i some h =
     let f : ℕ → ℕ = λ k. min fixed.constant_subblock_duration (fixed.duration - k * fixed.constant_subblock_duration) in
-    let e = count_alike fixed some in
-    let there : i < subblocks_in fixed.duration fixed.constant_subblock_duration = omega arith in
+    let there = number_alike fixed i some h in
     ap (λ ds. get_or ds i 0) (alike fixed some) ∙ get_or-map-range_with_len f 0 (subblocks_in fixed.duration fixed.constant_subblock_duration) i i 0 there (omega arith)
 
 -- the gain in subblock i, so many ticks after its start

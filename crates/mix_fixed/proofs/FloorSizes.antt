@@ -28,6 +28,9 @@ pub unmixed_most : (m : ℕ) (whole part : ℤ) (n : ℕ) → 1 ≤ m → 707 �
 unmixed_most m whole part n some least most w p =
     over_least (pos 1000 *ℤ (whole -ℤ part)) n (522000 * m) (740 * m) least (omega (arith, ints)) (omega arith) (omega arith)
 
+pub over_most : (m : ℕ) (x : ℤ) (n : ℕ) → 1 ≤ m → 707 ≤ n → n ≤ 1000 → AtMost m 740 x → AtMost m 1048 (floor_of (pos 1000 *ℤ x) n)
+over_most m x n some least most h = over_least (pos 1000 *ℤ x) n (740000 * m) (1048 * m) least (omega (arith, ints)) most (omega arith)
+
 pub behind_most : (m : ℕ) (surround side : ℤ) (n : ℕ) → 1 ≤ m → 707 ≤ n → n ≤ 1000 → AtMost m 740 surround → AtMost m 100000 side → AtMost m 1190 (floor_of (pos 1000 *ℤ surround -ℤ side) n)
 behind_most m surround side n some least most w p =
     over_least (pos 1000 *ℤ surround -ℤ side) n (840000 * m) (1190 * m) least (omega (arith, ints)) most (omega arith)

@@ -1,3 +1,4 @@
+pub mod Held
 pub mod FloorSizes
 pub mod FloorParts
 pub mod QuietLemmas

@@ -1,12 +1,14 @@
 -- A product with a ratio gives the floor of a fraction, where the number is small enough.
-use Rattle.std.proofs.Common.{arith, ◌≡◌, ◌<◌, ◌≤◌, ℕ, zero, suc, ℤ, pos, ◌+ℤ◌, ◌-ℤ◌, ◌*ℤ◌, ◌≤ℤ◌, ◌<ℤ◌, ◌^◌, ◌*◌, unsigned_abs, ap, ◌∙◌, sym, refl}
-use Rattle.std.proofs.lemmas.Int.{ints, unsigned_abs-mul}
+use Rattle.std.proofs.Common.{arith, ◌≡◌, ◌<◌, ◌≤◌, ℕ, zero, suc, ℤ, pos, ◌+ℤ◌, ◌-ℤ◌, ◌*ℤ◌, ◌≤ℤ◌, ◌<ℤ◌, ◌^◌, ◌*◌, unsigned_abs, FitsSigned, ap, ◌∙◌, sym, refl}
+use Rattle.std.specs.Int.{w64}
+use Rattle.std.proofs.lemmas.Int.{ints, to_z-of_z, unsigned_abs-mul}
 use Rattle.std.proofs.Math.Nat.{mul-le-mul, mul-le-mul_right}
 use Rattle.std.proofs.Math.IntN.{*ℤ_comm}
 use Rattle.spec_demix.specs.Floor.{floor_of}
 use Rattle.spec_demix.proofs.FloorLemmas.{floor-low, floor-high, distribute, distribute_minus, swapped, mul-ordered}
 use Rattle.demix_layers.proofs.Floors.{reassociate}
 use Rattle.mix_fixed.specs.Ratios.{IsRatio}
+use Rattle.mix_fixed.proofs.Held.{held}
 
 none_below : (k n : ℕ) → k * n < n → k ≡ 0
 none_below zero n h = refl
@@ -70,6 +72,14 @@ ratio_floor k n x part few small r =
     (omega (arith, ints, p, w)) (omega (arith, ints, s, down)) (omega (arith, ints, s, g, up)) in
     let a = distribute x f (pos n) in
     same_multiple (x +ℤ f) q n (omega (arith, ints, a, b.0)) (omega (arith, ints, a, b.1))
+
+-- the same, as 64 bits hold it
+pub held_ratio_floor : (k n : ℕ) (x part y : ℤ) → n ≤ 1000 → FitsSigned w64 part → FitsSigned w64 y → unsigned_abs x ≤ 2 ^ 53 → IsRatio k n part
+    → y ≡ held x +ℤ floor_of (held x *ℤ held part +ℤ pos (2 ^ 53)) (2 ^ 64) → held y ≡ floor_of (pos k *ℤ x) n
+held_ratio_floor k n x part y few fp fy small r e =
+    let fx : FitsSigned w64 x = omega (arith, ints, small) in
+    let f = simp to_z-of_z at e in
+    simp to_z-of_z (f ∙ ratio_floor k n x part few small r)
 
 -- how large a product with a ratio is
 pub ratio_size : (x part : ℤ) → unsigned_abs x ≤ 2 ^ 53 → unsigned_abs part ≤ 2 ^ 63 → unsigned_abs (x *ℤ part) ≤ 2 ^ 116

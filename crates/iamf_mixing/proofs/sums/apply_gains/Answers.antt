@@ -1,4 +1,4 @@
-use Rattle.std.proofs.Common.{arith, ◌≡◌, ◌<◌, ◌≤◌, ◌^◌, ◌*◌, ℤ, get_or, pos, unsigned_abs, sym, subst}
+use Rattle.std.proofs.Common.{arith, ◌<◌, ◌≤◌, ◌^◌, ◌*◌, ℤ, get_or, pos, unsigned_abs, sym, subst}
 use Rattle.spec_play.specs.FixedMix.{gained}
 use Rattle.iamf_mixing.proofs.GainBounds.{gained_small}
 use Rattle.iamf_mixing.proofs.sums.apply_gains.Goals as goal

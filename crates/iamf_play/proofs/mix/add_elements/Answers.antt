@@ -1,5 +1,5 @@
-use Rattle.std.proofs.Common.{arith, ◌≡◌, ◌<◌, ◌^◌, ℕ, ℤ, ◌+ℤ◌, true, Bool, sym, ap, subst, ◌∙◌, length}
-use Rattle.iamf_play.specs.Mixing.{place, IsAt}
+use Rattle.std.proofs.Common.{arith, ◌≡◌, ◌<◌, ◌^◌, ℤ, ◌+ℤ◌, true, sym, ap, subst, ◌∙◌, length}
+use Rattle.iamf_play.specs.Mixing.{place}
 use Rattle.iamf_play.specs.PlayedElements.{AreBegun}
 use Rattle.iamf_play.proofs.ElementWalks.{begun_here}
 use Rattle.iamf_play.proofs.MixedUnits.{part_of, sum_more, sum_all}

@@ -1,7 +1,8 @@
-use Rattle.std.proofs.Common.{arith, rules, ◌≡◌, ◌≤◌, ◌^◌, pos, ◌+ℤ◌, ◌*ℤ◌, unsigned_abs, FitsSigned, ap, refl, ◌∙◌}
+use Rattle.std.proofs.Common.{arith, rules, ◌≡◌, ◌≤◌, ◌^◌, pos, ◌+ℤ◌, ◌*ℤ◌, unsigned_abs, FitsSigned, to_z, of_z, ap, refl, ◌∙◌}
 use Rattle.std.specs.Int.{w64, w128}
 use Rattle.std.proofs.lemmas.Int.{ints, to_z-of_z}
 use Rattle.spec_demix.specs.Floor.{floor_of}
+use Rattle.mix_fixed.proofs.Held.{held}
 use Rattle.mix_fixed.proofs.RatioLemmas.{ratio_size, word_size}
 use Rattle.mix_fixed.proofs.floors.by_ratio.Goals as goal
 
@@ -25,22 +26,20 @@ word c =
     let k : floor_of (c.from.result *ℤ c.from-2.result +ℤ pos 9007199254740992) 18446744073709551616 ≡ floor_of (x *ℤ r +ℤ pos 9007199254740992) 18446744073709551616 = rw (kx, kr) refl in
     let e : c.high_word.result ≡ floor_of (x *ℤ r +ℤ pos 9007199254740992) 18446744073709551616 = h ∙ k in (e, rw e (word_size (x *ℤ r) m))
 
-pub overflow_add-result : goal.overflow_add-result
-overflow_add-result c =
+-- the sum fits 64 bits, which hold it
+sum_fits : (c : goal.After-high_word) → FitsSigned w64 (c.args.x +ℤ c.high_word.result)
+sum_fits c = let small = (word c).1 in let few = c.requires in omega (arith, ints, small, few)
+
+sum_is : (c : goal.After-high_word) → held c.args.x +ℤ held (to_z w128 (of_z w128 c.high_word.result)) ≡ c.args.x +ℤ c.high_word.result
+sum_is c =
     let small = (word c).1 in
-    let few = c.requires in
     let fx : FitsSigned w64 c.args.x = c.ranges.x in
     let f : FitsSigned w128 c.high_word.result = search rules in
     let fw : FitsSigned w64 c.high_word.result = omega (arith, ints, small) in
-    let all : FitsSigned w64 (c.args.x +ℤ c.high_word.result) = omega (arith, ints, small, few) in
-    simp to_z-of_z all
+    simp to_z-of_z
+
+pub overflow_add-result : goal.overflow_add-result
+overflow_add-result c = rw (sum_is c) (sum_fits c)
 
 pub returns : goal.returns
-returns c =
-    let small = (word c).1 in
-    let few = c.requires in
-    let fx : FitsSigned w64 c.args.x = c.ranges.x in
-    let f : FitsSigned w128 c.high_word.result = search rules in
-    let fw : FitsSigned w64 c.high_word.result = omega (arith, ints, small) in
-    let all : FitsSigned w64 (c.args.x +ℤ c.high_word.result) = omega (arith, ints, small, few) in
-    simp to_z-of_z (ap (λ t. c.args.x +ℤ t) (word c).0)
+returns c = rw (sum_is c, to_z-of_z w64 _ (sum_fits c)) (ap (λ t. c.args.x +ℤ t) (word c).0)

@@ -27,16 +27,9 @@ word c =
     let k : floor_of (c.from.result *ℤ c.from-2.result +ℤ pos 4294967296) 18446744073709551616 ≡ floor_of ((pos 2 *ℤ y) *ℤ r +ℤ pos 4294967296) 18446744073709551616 = rw (ky, kr) refl in
     (h ∙ k ∙ doubled y r, rw (h ∙ k) (doubled_floor ((pos 2 *ℤ y) *ℤ r) m))
 
-pub returns-clause-value : goal.returns-clause-value
-returns-clause-value c =
+pub returns : goal.returns
+returns c =
     let small = (word c).1 in
     let f : FitsSigned w128 c.high_word.result = search rules in
     let fw : FitsSigned w64 c.high_word.result = omega (arith, ints, small) in
-    simp to_z-of_z (word c).0
-
-pub returns-clause-small : goal.returns-clause-small
-returns-clause-small c =
-    let small = (word c).1 in
-    let f : FitsSigned w128 c.high_word.result = search rules in
-    let fw : FitsSigned w64 c.high_word.result = omega (arith, ints, small) in
-    simp to_z-of_z small
+    simp to_z-of_z (record { value = (word c).0; small = small })
